@@ -1,0 +1,5 @@
+pub mod Layout
+pub mod Net
+pub mod Stage
+pub mod Refusal
+pub mod File

@@ -1,0 +1,3 @@
+pub mod Piece
+pub mod Legal
+pub mod Name
