@@ -1,5 +1,7 @@
 // The net of document 01: its files read, refused, handed out in sections and written.
 // Definitions: specs/.
+pub mod layout;
+pub mod records;
 
 // What a call answers: number 0 is done; another is the refusal of document 01 with its place, and then count is 0.
 #[repr(C)]

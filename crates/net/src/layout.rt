@@ -1,0 +1,29 @@
+// Widths and limits of document 01's files, each stated once.
+
+// Bytes of the head: version, pair count and three pairs.
+pub const HEAD_BYTES: usize = 28;
+
+// Bytes of a node, a wire, an obstacle, a jumper list entry and a piece record.
+pub const NODE_BYTES: usize = 5;
+
+pub const WIRE_BYTES: usize = 3;
+
+pub const OBSTACLE_BYTES: usize = 8;
+
+pub const ENTRY_BYTES: usize = 3;
+
+pub const RECORD_BYTES: usize = 12;
+
+// The most nodes, obstacles and layers (or stages), and the greatest flags.
+pub const MOST_NODES: usize = 256;
+
+pub const MOST_OBSTACLES: usize = 256;
+
+pub const MOST_LAYERS: u8 = 16;
+
+pub const MOST_FLAGS: u8 = 3;
+
+// Version and pair count of a net file.
+pub const VERSION: u16 = 1;
+
+pub const PAIR_COUNT: u16 = 3;
