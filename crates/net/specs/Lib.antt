@@ -3,3 +3,5 @@ pub mod Net
 pub mod Stage
 pub mod Refusal
 pub mod File
+pub mod First
+pub mod Accepted

@@ -1,0 +1,165 @@
+-- What holds of three sections that meet none of 4 to 11.
+-- Assumes nothing.
+use Prim.Native.Nat.{ℕ, _+_, _-_, _*_, _/_, _%_, _<_, _≤_}
+use mathlib.Core.Path.{_≡_, refl, ap}
+use mathlib.Core.Bool.{Bool, true, false, not, _&&_, _||_}
+use mathlib.Core.List.{List}
+use mathlib.Core.Logic.{_⊎_, inl, inr, ⊎-map}
+use native.Mathlib.Omega.{arith}
+use lib.ListN.{length}
+use lib.Dec.{leb, ltb, eqb}
+use borrow.Author.Tests.{ltb-true, ltb-false, leb-true, eqb-true, eqb-false, not-false, lt-ltb, le-leb}
+use Rattle.laws.specs.Sums.{and-left, and-right, or-no-left, or-no-right}
+use Rattle.net.specs.Layout.{nodeBytes, wireBytes, obstacleBytes, mostNodes, mostObstacles, mostLayers, mostFlags}
+use Rattle.net.specs.Net.{nodeCount, nodeX, nodeY, nodeFlags, wireParent, wireLayer, wireFactor, obstacleCount, obstacleX1, obstacleY1, obstacleX2, obstacleY2}
+use Rattle.net.specs.Stage.{stageOf, Formed}
+use Rattle.net.specs.Refusal.{none, met, orElse, refusedIf, firstOf, sectionsRefusal, nodeRefusal, wireRefusal, obstacleRefusal, netRefusal}
+use Rattle.net.specs.First.{and-no, unmet-if, unmet-l, unmet-r, first-unmet}
+
+-- lengths and counts
+pub record Sized (ns ws os : List ℕ) : Type 0 where
+  pub nodes-length : length ns ≡ nodeBytes * nodeCount ns
+  pub some-node : 1 ≤ nodeCount ns
+  pub few-nodes : nodeCount ns ≤ mostNodes
+  pub wires-length : length ws ≡ wireBytes * (nodeCount ns - 1)
+  pub obstacles-length : length os ≡ obstacleBytes * obstacleCount os
+  pub few-obstacles : obstacleCount os ≤ mostObstacles
+
+-- wire i
+pub record WireRight (ns ws : List ℕ) (i : ℕ) : Type 0 where
+  pub below : wireParent ws i < i
+  pub layer-low : 1 ≤ wireLayer ws i
+  pub layer-high : wireLayer ws i ≤ mostLayers
+  pub factor-low : 1 ≤ wireFactor ws i
+  pub straight : (nodeX ns i ≡ nodeX ns (wireParent ws i)) ⊎ (nodeY ns i ≡ nodeY ns (wireParent ws i))
+
+-- obstacle k
+pub record ObstacleRight (os : List ℕ) (k : ℕ) : Type 0 where
+  pub corners-x : obstacleX1 os k ≤ obstacleX2 os k
+  pub corners-y : obstacleY1 os k ≤ obstacleY2 os k
+
+pub record NetRight (ns ws os : List ℕ) : Type 0 where
+  pub sized : Sized ns ws os
+  pub flags : (i : ℕ) → i < nodeCount ns → nodeFlags ns i ≤ mostFlags
+  pub wire : (i : ℕ) → 0 < i → i < nodeCount ns → WireRight ns ws i
+  pub obstacle : (k : ℕ) → k < obstacleCount os → ObstacleRight os k
+
+sized-of : (ns ws os : List ℕ) → met (sectionsRefusal ns ws os) ≡ false → Sized ns ws os
+unfolding sectionsRefusal
+sized-of ns ws os e =
+    let a = eqb (length ns % nodeBytes) 0 in
+    let b = eqb (nodeCount ns) 0 in
+    let c = ltb mostNodes (nodeCount ns) in
+    let d = eqb (length ws) (wireBytes * (nodeCount ns - 1)) in
+    let f = eqb (length os % obstacleBytes) 0 in
+    let g = ltb mostObstacles (obstacleCount os) in
+    let r4 = refusedIf (not a || (b || c)) 4 0 in
+    let r5 = refusedIf (not d) 5 0 in
+    let r6 = refusedIf (not f || g) 6 0 in
+    let t4 : (not a || (b || c)) ≡ false = unmet-if (not a || (b || c)) 4 0 refl (unmet-l r4 (orElse r5 r6) e) in
+    let t5 : not d ≡ false = unmet-if (not d) 5 0 refl (unmet-l r5 r6 (unmet-r r4 (orElse r5 r6) e)) in
+    let t6 : (not f || g) ≡ false = unmet-if (not f || g) 6 0 refl (unmet-r r5 r6 (unmet-r r4 (orElse r5 r6) e)) in
+    let bc : (b || c) ≡ false = or-no-right (not a) (b || c) t4 in
+    let fives : length ns % nodeBytes ≡ 0 = eqb-true _ _ (not-false a (or-no-left (not a) (b || c) t4)) in
+    let some : nodeCount ns ≡ 0 → ⊥ = eqb-false _ _ (or-no-left b c bc) in
+    let few : nodeCount ns ≤ mostNodes = ltb-false _ _ (or-no-right b c bc) in
+    let eights : length os % obstacleBytes ≡ 0 = eqb-true _ _ (not-false f (or-no-left (not f) g t6)) in
+    record {
+      nodes-length = omega arith;
+      some-node = omega arith;
+      few-nodes = few;
+      wires-length = eqb-true _ _ (not-false d t5);
+      obstacles-length = omega arith;
+      few-obstacles = ltb-false _ _ (or-no-right (not f) g t6);
+    }
+
+flags-of : (ns : List ℕ) (i : ℕ) → met (nodeRefusal ns i) ≡ false → nodeFlags ns i ≤ mostFlags
+unfolding nodeRefusal
+flags-of ns i e = ltb-false _ _ (unmet-if (ltb mostFlags (nodeFlags ns i)) 7 i refl e)
+
+wire-of : (ns ws : List ℕ) (i : ℕ) → met (wireRefusal ns ws i) ≡ false → WireRight ns ws i
+unfolding wireRefusal
+wire-of ns ws i e =
+    let a = ltb (wireParent ws i) i in
+    let b = eqb (wireLayer ws i) 0 in
+    let c = ltb mostLayers (wireLayer ws i) in
+    let d = eqb (wireFactor ws i) 0 in
+    let x = eqb (nodeX ns i) (nodeX ns (wireParent ws i)) in
+    let y = eqb (nodeY ns i) (nodeY ns (wireParent ws i)) in
+    let r8 = refusedIf (not a) 8 i in
+    let r9 = refusedIf (b || (c || d)) 9 i in
+    let r10 = refusedIf (not x && not y) 10 i in
+    let t8 : not a ≡ false = unmet-if (not a) 8 i refl (unmet-l r8 (orElse r9 r10) e) in
+    let t9 : (b || (c || d)) ≡ false = unmet-if (b || (c || d)) 9 i refl (unmet-l r9 r10 (unmet-r r8 (orElse r9 r10) e)) in
+    let t10 : (not x && not y) ≡ false = unmet-if (not x && not y) 10 i refl (unmet-r r9 r10 (unmet-r r8 (orElse r9 r10) e)) in
+    let cd : (c || d) ≡ false = or-no-right b (c || d) t9 in
+    let low : wireLayer ws i ≡ 0 → ⊥ = eqb-false _ _ (or-no-left b (c || d) t9) in
+    let factor : wireFactor ws i ≡ 0 → ⊥ = eqb-false _ _ (or-no-right c d cd) in
+    record {
+      below = ltb-true _ _ (not-false a t8);
+      layer-low = omega arith;
+      layer-high = ltb-false _ _ (or-no-left c d cd);
+      factor-low = omega arith;
+      straight =
+          ⊎-map (λ t. eqb-true _ _ (not-false x t)) (λ t. eqb-true _ _ (not-false y t)) (and-no (not x) (not y) t10);
+    }
+
+obstacle-of : (os : List ℕ) (k : ℕ) → met (obstacleRefusal os k) ≡ false → ObstacleRight os k
+unfolding obstacleRefusal
+obstacle-of os k e =
+    let a = ltb (obstacleX2 os k) (obstacleX1 os k) in
+    let b = ltb (obstacleY2 os k) (obstacleY1 os k) in
+    let t : (a || b) ≡ false = unmet-if (a || b) 11 k refl e in
+    record { corners-x = ltb-false _ _ (or-no-left a b t); corners-y = ltb-false _ _ (or-no-right a b t) }
+
+module _ (ns ws os : List ℕ) where
+  pub net-right : netRefusal ns ws os ≡ none → NetRight ns ws os
+  unfolding netRefusal
+  net-right e =
+      let r456 = sectionsRefusal ns ws os in
+      let r7 = firstOf (nodeCount ns) (λ i. nodeRefusal ns i) in
+      let r8 = firstOf (nodeCount ns - 1) (λ i. wireRefusal ns ws (i + 1)) in
+      let r11 = firstOf (obstacleCount os) (λ k. obstacleRefusal os k) in
+      let u = ap met e in
+      let u7 = unmet-r r456 (orElse r7 (orElse r8 r11)) u in
+      let u8 = unmet-r r7 (orElse r8 r11) u7 in
+      record {
+        sized = sized-of ns ws os (unmet-l r456 (orElse r7 (orElse r8 r11)) u);
+        flags = λ i h. flags-of ns i (first-unmet _ _ (unmet-l r7 (orElse r8 r11) u7) i h);
+        wire = λ i p h.
+            let q : i - 1 + 1 ≡ i = omega arith in
+            wire-of ns ws i (rw q at (first-unmet (λ i. wireRefusal ns ws (i + 1)) _ (unmet-l r8 r11 u8) (i - 1) (omega arith)));
+        obstacle = λ k h. obstacle-of os k (first-unmet _ _ (unmet-r r8 r11 u8) k h);
+      }
+
+  -- a wire's record lies in its section
+  pub wire-inside : Sized ns ws os → (i : ℕ) → 0 < i → i < nodeCount ns → wireBytes * i ≤ length ws
+  wire-inside s i p h = omega (arith, s .wires-length)
+
+  -- a wire is present at a stage if it is a wire of the net and its layer is at most the stage
+  module _ (k i : ℕ) (p : stageOf ns ws os k .present i ≡ true) where
+    pub present-positive : 0 < i
+    unfolding stageOf
+    present-positive = ltb-true _ _ (and-left (ltb 0 i) (ltb i (nodeCount ns) && leb (wireLayer ws i) k) p)
+
+    inside-layer : (ltb i (nodeCount ns) && leb (wireLayer ws i) k) ≡ true
+    unfolding stageOf
+    inside-layer = and-right (ltb 0 i) (ltb i (nodeCount ns) && leb (wireLayer ws i) k) p
+
+    pub present-inside : i < nodeCount ns
+    present-inside = ltb-true _ _ (and-left (ltb i (nodeCount ns)) (leb (wireLayer ws i) k) inside-layer)
+
+    pub present-layer : wireLayer ws i ≤ k
+    present-layer = leb-true _ _ (and-right (ltb i (nodeCount ns)) (leb (wireLayer ws i) k) inside-layer)
+
+  pub present-if : (k i : ℕ) → 0 < i → i < nodeCount ns → wireLayer ws i ≤ k → stageOf ns ws os k .present i ≡ true
+  unfolding stageOf
+  present-if k i p h l = rw (lt-ltb _ _ p, lt-ltb _ _ h, le-leb _ _ l)
+
+  pub formed : NetRight ns ws os → (k : ℕ) → Formed (stageOf ns ws os k)
+  unfolding stageOf
+  formed r k =
+      record {
+        inside = λ i p. present-inside k i p;
+        below = λ i p. r .wire i (present-positive k i p) (present-inside k i p) .below;
+      }
