@@ -1,3 +1,4 @@
 pub mod Sum
 pub mod Sums
+pub mod Tree
 pub mod Bytes
