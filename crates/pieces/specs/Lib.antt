@@ -1,3 +1,5 @@
 pub mod Piece
 pub mod Legal
 pub mod Name
+pub mod Lowest
+pub mod Weight
