@@ -1,0 +1,1 @@
+// The code of repair: cuttable points, clusters, the pass that counts, the pass that chooses, the list.
