@@ -1,3 +1,5 @@
 pub mod Cluster
 pub mod Passes
 pub mod Fits
+pub mod LowerLargest
+pub mod LowerLightest
