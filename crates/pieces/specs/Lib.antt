@@ -2,4 +2,6 @@ pub mod Piece
 pub mod Legal
 pub mod Name
 pub mod Lowest
+pub mod Jumpers
+pub mod Names
 pub mod Weight

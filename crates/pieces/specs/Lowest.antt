@@ -31,7 +31,7 @@ unfolding joins
 absent-apart s J i a = and-no-left (not (cutAt s J i)) a
 
 module _ (s : Stage) (J : Points) (formed : Formed s) where
-  joins-below : (i : ℕ) → joins s J i ≡ true → s .parent i < i
+  pub joins-below : (i : ℕ) → joins s J i ≡ true → s .parent i < i
   joins-below i h = formed .below i (joins-present s J i h)
 
   -- more fuel changes nothing
