@@ -1,0 +1,34 @@
+-- Document 01, "Where each refusal is met": 12 to 14, on a jumper list at a stage.
+-- Assumes nothing.
+use Prim.Native.Nat.{ℕ, _-_, _/_, _%_}
+use mathlib.Core.Bool.{Bool, not, _&&_, _||_}
+use mathlib.Core.List.{List}
+use lib.ListN.{length}
+use lib.Dec.{leb, ltb, eqb}
+use Rattle.net.specs.declared.Refusal.{Refusal}
+use Rattle.net.specs.Layout.{entryBytes}
+use Rattle.net.specs.Stage.{Stage}
+use Rattle.net.specs.Refusal.{refusedIf, orElse, firstOf}
+use Rattle.pieces.specs.Legal.{entryWire, entryPosition}
+
+-- the number of entries
+abbrev pub entryCount : List ℕ → ℕ
+entryCount list = length list / entryBytes
+
+-- entry e stands after entry d: by wire, then position
+unfoldable pub after : List ℕ → ℕ → ℕ → Bool
+after list d e =
+    ltb (entryWire list d) (entryWire list e)
+    || (eqb (entryWire list d) (entryWire list e) && ltb (entryPosition list d) (entryPosition list e))
+
+-- entry e: 12 not after the one before; 13 no such wire, absent wire, or position outside; 14 barred
+unfoldable pub entryRefusal : Stage → List ℕ → ℕ → Refusal
+entryRefusal s list e =
+    orElse (refusedIf (not (eqb e 0 || after list (e - 1) e)) 12 e)
+    (orElse (refusedIf (not (s .present (entryWire list e) && (leb 1 (entryPosition list e) && ltb (entryPosition list e) (s .len (entryWire list e))))) 13 e)
+    (refusedIf (s .barred (entryWire list e) (entryPosition list e)) 14 e))
+
+-- a list: 12 length not in threes, then each entry in order
+unfoldable pub listRefusal : Stage → List ℕ → Refusal
+listRefusal s list =
+    orElse (refusedIf (not (eqb (length list % entryBytes) 0)) 12 0) (firstOf (entryCount list) (λ e. entryRefusal s list e))
