@@ -3,3 +3,4 @@ pub mod Passes
 pub mod Fits
 pub mod LowerLargest
 pub mod LowerLightest
+pub mod BridgeFits
