@@ -4,3 +4,4 @@ pub mod Fits
 pub mod LowerLargest
 pub mod LowerLightest
 pub mod BridgeFits
+pub mod LowerParts
