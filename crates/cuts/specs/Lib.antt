@@ -5,3 +5,4 @@ pub mod LowerLargest
 pub mod LowerLightest
 pub mod BridgeFits
 pub mod LowerParts
+pub mod LowerClosing
