@@ -5,4 +5,5 @@ pub mod JumperList
 pub mod Lowest
 pub mod Jumpers
 pub mod Names
+pub mod Named
 pub mod Weight
