@@ -6,8 +6,8 @@ use mathlib.Core.Bool.{Bool, true, false, not, _&&_, _||_, cond, false≢true, t
 use mathlib.Core.Logic.{_⊎_, inl, inr, ⊎-elim, _≢_}
 use native.Mathlib.Omega.{arith}
 use native.Mathlib.Nat.{mul-add, mul-zero}
-use lib.Dec.{eqb}
-use borrow.Author.Tests.{eq-eqb, ne-eqb, eqb-true, eqb-false}
+use lib.Dec.{eqb, ltb}
+use borrow.Author.Tests.{eq-eqb, ne-eqb, eqb-true, eqb-false, ltb-true, ltb-false}
 use Rattle.laws.specs.Sum.{χ, sum, any, lowest, highest}
 
 -- a test holds or fails
@@ -186,6 +186,29 @@ pub sum-pick′ : (n i : ℕ) (f : ℕ → ℕ) → i < n → sum n (λ j. χ (e
 sum-pick′ n i f p =
     sum-one n i (λ j. χ (eqb i j) (f j)) p (λ j lt ne. χ-no (f j) (ne-eqb i j (λ e. ne (sym e)))) ∙ χ-yes (f i) (eq-eqb i i refl)
 
+-- over r with a test, what each i adds at place k i
+pub sum-regroup :
+    (n : ℕ) (q a : ℕ → Bool) (k x : ℕ → ℕ) →
+    ((i : ℕ) → i < n → a i ≡ true → k i < n) →
+    sum n (λ r. χ (q r) (sum n (λ i. χ (a i && eqb (k i) r) (x i)))) ≡ sum n (λ i. χ (a i) (χ (q (k i)) (x i)))
+sum-regroup n q a k x inside =
+    sum-ap n (λ r p. sym (sum-χ (q r) n (λ i. χ (a i && eqb (k i) r) (x i))))
+    ∙ (sum-swap n n (λ r i. χ (q r) (χ (a i && eqb (k i) r) (x i)))
+    ∙ sum-ap n (λ i p. one i p))
+  where
+    move : (t u v : Bool) (y : ℕ) → χ t (χ (u && v) y) ≡ χ u (χ v (χ t y))
+    move true true v y = refl
+    move true false v y = refl
+    move false true true y = refl
+    move false true false y = refl
+    move false false v y = refl
+
+    one : (i : ℕ) → i < n → sum n (λ r. χ (q r) (χ (a i && eqb (k i) r) (x i))) ≡ χ (a i) (χ (q (k i)) (x i))
+    one i p =
+        sum-ap n (λ r lt. move (q r) (a i) (eqb (k i) r) (x i))
+        ∙ (sum-χ (a i) n (λ r. χ (eqb (k i) r) (χ (q r) (x i)))
+        ∙ χ-ap (a i) (λ yes. sum-pick′ n (k i) (λ r. χ (q r) (x i)) (inside i p yes)))
+
 -- equal sums of ordered terms are equal term by term
 pub sum-tight : (n : ℕ) {f g : ℕ → ℕ} → ((i : ℕ) → i < n → f i ≤ g i) → sum n g ≤ sum n f → (i : ℕ) → i < n → f i ≡ g i
 unfolding sum
@@ -210,6 +233,31 @@ sum-more m (suc n) f p =
     by (eqb m (suc n))
     (λ w. rw (eqb-true m (suc n) w) (omega arith))
     (λ w. let ne = eqb-false m (suc n) w in let a = sum-more m n f (omega arith) in omega arith)
+
+-- a sum above 0 has a term above 0
+pub sum-some : (n : ℕ) (f : ℕ → ℕ) → 0 < sum n f → (i : ℕ) × (i < n) × (0 < f i)
+unfolding sum
+sum-some zero f h = absurd (native.Mathlib.Nat.lt-irrefl 0 (omega arith))
+sum-some (suc n) f h =
+    by (eqb (f n) 0)
+    (λ z. let e = eqb-true (f n) 0 z in let r = sum-some n f (omega arith) in (r .0, omega (arith, r .1), r .2))
+    (λ z. let e = eqb-false (f n) 0 z in (n, omega arith, omega arith))
+
+-- two terms are at most the sum
+pub two-≤ : (n i j : ℕ) (f : ℕ → ℕ) → i < n → j < n → i ≢ j → f i + f j ≤ sum n f
+two-≤ n i j f p q ne =
+    let a = sum-+ n (λ k. χ (eqb k i) (f k)) (λ k. χ (eqb k j) (f k)) in
+    let b = sum-pick n i f p in
+    let c = sum-pick n j f q in
+    let d =
+    sum-≤ n
+    {f = λ k. χ (eqb k i) (f k) + χ (eqb k j) (f k)}
+    {g = f}
+    (λ k lt.
+    by (eqb k i)
+    (λ y. let e : eqb k j ≡ false = ne-eqb k j (λ w. ne (sym (eqb-true k i y) ∙ w)) in rw (y, e) (omega arith))
+    (λ z. let e = χ-≤ (eqb k j) (f k) in rw z (omega arith))) in
+    omega arith
 
 -- ---- any
 pub any-yes : (n i : ℕ) (f : ℕ → Bool) → i < n → f i ≡ true → any n f ≡ true
@@ -287,6 +335,28 @@ pub highest-none : (n : ℕ) (f : ℕ → Bool) → any n f ≡ false → highes
 unfolding highest any
 highest-none zero f h = refl
 highest-none (suc n) f h = rw (or-no-right (any n f) (f n) h) (highest-none n f (or-no-left (any n f) (f n) h))
+
+pub lowest-is : (n i : ℕ) (f : ℕ → Bool) → i < n → f i ≡ true → ((j : ℕ) → j < i → f j ≡ false) → lowest n f ≡ i
+lowest-is n i f p h none =
+    let r = lowest-passes n f (any-yes n i f p h) in
+    by (eqb (lowest n f) i)
+    (λ y. eqb-true (lowest n f) i y)
+    (λ z.
+    let ne = eqb-false (lowest n f) i z in
+    by (ltb (lowest n f) i)
+    (λ y. absurd (no-both (r .1) (none (lowest n f) (ltb-true (lowest n f) i y))))
+    (λ w. let le = ltb-false (lowest n f) i w in absurd (no-both h (lowest-least n i f (omega arith)))))
+
+pub highest-is : (n i : ℕ) (f : ℕ → Bool) → i < n → f i ≡ true → ((j : ℕ) → i < j → f j ≡ false) → highest n f ≡ i
+highest-is n i f p h none =
+    let r = highest-passes n f (any-yes n i f p h) in
+    by (eqb (highest n f) i)
+    (λ y. eqb-true (highest n f) i y)
+    (λ z.
+    let ne = eqb-false (highest n f) i z in
+    by (ltb i (highest n f))
+    (λ y. absurd (no-both (r .1) (none (highest n f) (ltb-true i (highest n f) y))))
+    (λ w. let le = ltb-false i (highest n f) w in absurd (no-both h (highest-most n i f p (omega arith)))))
 
 -- ---- induction over the numbers below n
 pub up : (n : ℕ) (P : ℕ → Type 0) → ((i : ℕ) → i < n → ((j : ℕ) → j < i → P j) → P i) → (i : ℕ) → i < n → P i

@@ -5,9 +5,9 @@ use mathlib.Core.Path.{_≡_, refl, sym, _∙_, ap}
 use mathlib.Core.Bool.{Bool, true, false, not, _&&_}
 use native.Mathlib.Omega.{arith}
 use lib.Dec.{eqb}
-use borrow.Author.Tests.{eq-eqb}
+use borrow.Author.Tests.{eq-eqb, eqb-true}
 use Rattle.laws.specs.Sum.{χ, sum}
-use Rattle.laws.specs.Sums.{by, and-left, and-right, and-intro, χ-yes, χ-no, χ-mono, χ-ap, χ-+, χ-and, χ-split, sum-ap, sum-≤, sum-+, sum-χ, sum-swap, sum-pick′, term-≤, up, down}
+use Rattle.laws.specs.Sums.{by, and-left, and-right, and-intro, χ-yes, χ-mono, χ-ap, χ-+, χ-split, sum-ap, sum-≤, sum-+, sum-pick′, sum-regroup, term-≤, up, down}
 
 -- y at node i and at all below it, at most k levels deep; child i j: node j is a child of node i
 unfoldable pub treeSum : ℕ → ℕ → (ℕ → ℕ → Bool) → (ℕ → ℕ) → ℕ → ℕ
@@ -79,7 +79,7 @@ tree-unique n child y T U rising t u i p =
 pub joined-rising : (n : ℕ) (joined : ℕ → Bool) (par : ℕ → ℕ) → ((j : ℕ) → j < n → joined j ≡ true → par j < j) → Rising n (joinedTo joined par)
 joined-rising n joined par lower i j p q is =
     let a = lower j q (and-left (joined j) (eqb (par j) i) is) in
-    let e = borrow.Author.Tests.eqb-true (par j) i (and-right (joined j) (eqb (par j) i) is) in
+    let e = eqb-true (par j) i (and-right (joined j) (eqb (par j) i) is) in
     omega arith
 
 -- ---- a tree sum by parents is a sum over all nodes
@@ -87,25 +87,8 @@ module _ (n : ℕ) (joined : ℕ → Bool) (par y T : ℕ → ℕ) (lower : (j :
   -- what the children of all nodes with a test add up to
   children : (q : ℕ → Bool) → ((j : ℕ) → j < n → joined j ≡ true → q j ≡ q (par j)) → sum n (λ r. χ (q r) (sum n (λ j. χ (joinedTo joined par r j) (T j)))) ≡ sum n (λ j. χ (joined j) (χ (q j) (T j)))
   children q along =
-      sum-ap n (λ r p. sym (sum-χ (q r) n (λ j. χ (joinedTo joined par r j) (T j))))
-      ∙ (sum-swap n n (λ r j. χ (q r) (χ (joinedTo joined par r j) (T j)))
-      ∙ sum-ap n (λ j p. one j p))
-    where
-      move : (a b c : Bool) (x : ℕ) → χ a (χ (b && c) x) ≡ χ b (χ c (χ a x))
-      move true true c x = refl
-      move true false c x = refl
-      move false true true x = refl
-      move false true false x = refl
-      move false false c x = refl
-
-      one : (j : ℕ) → j < n → sum n (λ r. χ (q r) (χ (joinedTo joined par r j) (T j))) ≡ χ (joined j) (χ (q j) (T j))
-      one j p =
-          sum-ap n (λ r lt. move (q r) (joined j) (eqb (par j) r) (T j))
-          ∙ (sum-χ (joined j) n (λ r. χ (eqb (par j) r) (χ (q r) (T j)))
-          ∙ χ-ap (joined j)
-          (λ yes.
-          let a = lower j p yes in
-          sum-pick′ n (par j) (λ r. χ (q r) (T j)) (omega arith) ∙ ap (λ t. χ t (T j)) (sym (along j p yes))))
+      sum-regroup n q joined par T (λ j p yes. let a = lower j p yes in omega arith)
+      ∙ sum-ap n (λ j p. χ-ap (joined j) (λ yes. ap (λ t. χ t (T j)) (sym (along j p yes))))
 
   -- over the nodes that are not joined to a parent
   pub flat-by : (q : ℕ → Bool) → ((j : ℕ) → j < n → joined j ≡ true → q j ≡ q (par j)) → sum n (λ j. χ (not (joined j)) (χ (q j) (T j))) ≡ sum n (λ r. χ (q r) (y r))
