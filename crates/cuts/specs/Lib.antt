@@ -1,6 +1,8 @@
 pub mod Cluster
 pub mod Passes
 pub mod Fits
+pub mod ChosenModes
+pub mod ChosenGood
 pub mod LowerLargest
 pub mod LowerLightest
 pub mod BridgeFits
