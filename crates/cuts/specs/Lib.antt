@@ -7,4 +7,6 @@ pub mod LowerLargest
 pub mod LowerLightest
 pub mod BridgeFits
 pub mod LowerParts
+pub mod LowerWire
+pub mod LowerCount
 pub mod LowerClosing

@@ -1,12 +1,12 @@
 -- To ask for no gate is never lighter: where a branch or a cluster has both a lightest weight and one without a gate, the first is at most the second.
 -- Assumes nothing.
 use Prim.Native.Nat.{ℕ, _+_, _≤_, _<_}
-use mathlib.Core.Path.{_≡_, refl, sym, _∙_, ap}
+use mathlib.Core.Path.{_≡_, refl}
 use mathlib.Core.Bool.{Bool, true, false, not, _&&_, cond}
 use native.Mathlib.Omega.{arith}
 use lib.Dec.{leb, eqb}
 use borrow.Author.Tests.{eqb-true}
-use Rattle.laws.specs.Sum.{χ, sum}
+use Rattle.laws.specs.Sum.{χ}
 use Rattle.laws.specs.Sums.{no-both, and-left, and-right, sum-≤, down}
 use Rattle.cuts.specs.Cluster.{Clusters, Sound, hangs, span}
 use Rattle.cuts.specs.Passes.{Down, ungatedLeft, Closed, only-any, both, only-ungated, Climbed, without-gate, within-limit, with-jumper, Counted}
@@ -58,11 +58,11 @@ lightest-step :
     Climbed c limit d j →
     d .hasUngated j ≡ true →
     d .lightest j ≤ d .ungated j
-lightest-step c limit d j h (without-gate ok count near has ungated lightest) has′ =
+lightest-step c limit d j h (without-gate ok count near has ungated lightest) asked =
     let w = h ok in
     omega (arith, lightest, cond-≤ (leb (d .anyWeight j + span c j) limit) {a = d .anyWeight j + span c j} {b = d .ungated j} (omega arith))
-lightest-step c limit d j h (within-limit ok fits count near has lightest) has′ = absurd (no-both has′ has)
-lightest-step c limit d j h (with-jumper ok over count free fits most has ungated lightest) has′ = omega arith
+lightest-step c limit d j h (within-limit ok fits count near has lightest) asked = absurd (no-both asked has)
+lightest-step c limit d j h (with-jumper ok over count free fits most has ungated lightest) asked = omega arith
 
 pub anyWeight-≤ :
     (c : Clusters) (limit : ℕ) (d : Down) →
@@ -76,8 +76,8 @@ anyWeight-≤ c limit d s k =
     down (c .nodes) (λ r. d .ungatedOk r ≡ true → d .anyWeight r ≤ d .ungatedWeight r)
     (λ r p above.
     anyWeight-step c limit d r
-    (λ j q h has′.
-    lightest-step c limit d j (above j (hangs-above s r j q h) q) (k .climbed j (omega arith) q (and-left (c .cuttable j) (eqb (c .host j) r) h)) has′)
+    (λ j q h asked.
+    lightest-step c limit d j (above j (hangs-above s r j q h) q) (k .climbed j (omega arith) q (and-left (c .cuttable j) (eqb (c .host j) r) h)) asked)
     (k .closed r (omega arith) p))
 
 pub lightest-≤ :

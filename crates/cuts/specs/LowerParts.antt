@@ -2,12 +2,12 @@
 -- fixed weight above the limit leaves no good set. A set that is good at a limit is good at a higher one.
 -- Assumes nothing.
 use Prim.Native.Nat.{ℕ, _+_, _≤_, _<_}
-use mathlib.Core.Path.{_≡_, refl, sym, _∙_, ap}
-use mathlib.Core.Bool.{Bool, true, false, not, _&&_}
+use mathlib.Core.Path.{_≡_, refl, ap}
+use mathlib.Core.Bool.{true, false, not, _&&_}
 use native.Mathlib.Omega.{arith}
 use native.Mathlib.Nat.{lt-irrefl}
 use borrow.Author.Tests.{eq-eqb}
-use Rattle.laws.specs.Sum.{χ, sum}
+use Rattle.laws.specs.Sum.{χ}
 use Rattle.laws.specs.Sums.{by, and-intro, χ-yes, term-≤, up}
 use Rattle.cuts.specs.Cluster.{Clusters, Sound, Effect, Parts, Good, hangs, span}
 
