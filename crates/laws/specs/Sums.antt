@@ -1,6 +1,6 @@
 -- Laws of sums with a test, of `any`, and of the lowest and highest number that passes a test.
 -- Assumes nothing.
-use Prim.Native.Nat.{ℕ, zero, suc, _+_, _*_, _≤_, _<_}
+use Prim.Native.Nat.{ℕ, zero, suc, _+_, _-_, _*_, _≤_, _<_}
 use mathlib.Core.Path.{_≡_, refl, sym, _∙_, ap}
 use mathlib.Core.Bool.{Bool, true, false, not, _&&_, _||_, cond, false≢true, true≢false}
 use mathlib.Core.Logic.{_⊎_, inl, inr, ⊎-elim, _≢_}
@@ -259,6 +259,36 @@ two-≤ n i j f p q ne =
     (λ z. let e = χ-≤ (eqb k j) (f k) in rw z (omega arith))) in
     omega arith
 
+-- the terms from a to b − 1 are x, the others 0
+pub sum-stretch : (n a b x : ℕ) (f : ℕ → ℕ) → a ≤ b → b ≤ n →
+    ((t : ℕ) → a ≤ t → t < b → f t ≡ x) → ((t : ℕ) → t < n → t < a → f t ≡ 0) → ((t : ℕ) → t < n → b ≤ t → f t ≡ 0) → sum n f ≡ (b - a) * x
+unfolding sum
+sum-stretch zero a b x f p q in-it low high =
+    let e : b - a ≡ 0 = omega arith in rw e (sym (native.Mathlib.Nat.zero-mul x))
+sum-stretch (suc n) a b x f p q in-it low high =
+    by (eqb b (suc n))
+    (λ e.
+    let e′ = eqb-true b (suc n) e in
+    by (eqb a b)
+    (λ w.
+    let w′ = eqb-true a b w in
+    let none : sum (suc n) f ≡ 0 = sum-zero (suc n) (λ t lt. low t lt (omega arith)) in
+    let z : b - a ≡ 0 = omega arith in
+    none ∙ rw z (sym (native.Mathlib.Nat.zero-mul x)))
+    (λ w.
+    let w′ = eqb-false a b w in
+    let rest =
+    sum-stretch n a n x f (omega arith) (omega arith) (λ t y z. in-it t y (omega arith)) (λ t y z. low t (omega arith) z)
+    (λ t y z. absurd (native.Mathlib.Nat.lt-irrefl 0 (omega arith))) in
+    let last = in-it n (omega arith) (omega arith) in
+    let z : b - a ≡ suc (n - a) = omega arith in
+    rw z (omega (arith, native.Mathlib.Nat.suc-mul (n - a) x))))
+    (λ e.
+    let e′ = eqb-false b (suc n) e in
+    let rest = sum-stretch n a b x f p (omega arith) in-it (λ t y z. low t (omega arith) z) (λ t y z. high t (omega arith) z) in
+    let last = high n (omega arith) (omega arith) in
+    omega arith)
+
 -- ---- any
 pub any-yes : (n i : ℕ) (f : ℕ → Bool) → i < n → f i ≡ true → any n f ≡ true
 unfolding any
@@ -347,16 +377,24 @@ lowest-is n i f p h none =
     (λ y. absurd (no-both (r .1) (none (lowest n f) (ltb-true (lowest n f) i y))))
     (λ w. let le = ltb-false (lowest n f) i w in absurd (no-both h (lowest-least n i f (omega arith)))))
 
-pub highest-is : (n i : ℕ) (f : ℕ → Bool) → i < n → f i ≡ true → ((j : ℕ) → i < j → f j ≡ false) → highest n f ≡ i
-highest-is n i f p h none =
+pub highest-≥ : (n i : ℕ) (f : ℕ → Bool) → i < n → f i ≡ true → i ≤ highest n f
+highest-≥ n i f p h =
+    by (ltb (highest n f) i)
+    (λ y. absurd (no-both h (highest-most n i f p (ltb-true (highest n f) i y))))
+    (λ z. ltb-false (highest n f) i z)
+
+pub highest-last : (n i : ℕ) (f : ℕ → Bool) → i < n → f i ≡ true → ((t : ℕ) → i < t → t < n → f t ≡ false) → highest n f ≡ i
+highest-last n i f p h none =
     let r = highest-passes n f (any-yes n i f p h) in
+    let a = highest-≥ n i f p h in
     by (eqb (highest n f) i)
-    (λ y. eqb-true (highest n f) i y)
-    (λ z.
-    let ne = eqb-false (highest n f) i z in
-    by (ltb i (highest n f))
-    (λ y. absurd (no-both (r .1) (none (highest n f) (ltb-true i (highest n f) y))))
-    (λ w. let le = ltb-false i (highest n f) w in absurd (no-both h (highest-most n i f p (omega arith)))))
+    (λ e. eqb-true (highest n f) i e)
+    (λ e.
+    let ne = eqb-false (highest n f) i e in
+    absurd (no-both (r .1) (none (highest n f) (omega arith) (r .0))))
+
+pub highest-is : (n i : ℕ) (f : ℕ → Bool) → i < n → f i ≡ true → ((j : ℕ) → i < j → f j ≡ false) → highest n f ≡ i
+highest-is n i f p h none = highest-last n i f p h (λ t lt b. none t lt)
 
 -- ---- induction over the numbers below n
 pub up : (n : ℕ) (P : ℕ → Type 0) → ((i : ℕ) → i < n → ((j : ℕ) → j < i → P j) → P i) → (i : ℕ) → i < n → P i
