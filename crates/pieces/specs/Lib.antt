@@ -6,4 +6,6 @@ pub mod Lowest
 pub mod Jumpers
 pub mod Names
 pub mod Named
+pub mod Weights
+pub mod LegalByNodes
 pub mod Weight
