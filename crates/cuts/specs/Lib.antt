@@ -3,6 +3,8 @@ pub mod Passes
 pub mod Fits
 pub mod ChosenModes
 pub mod ChosenGood
+pub mod ChosenCount
+pub mod ChosenQuiet
 pub mod LowerLargest
 pub mod LowerLightest
 pub mod BridgeFits
