@@ -9,3 +9,4 @@ pub mod Named
 pub mod Weights
 pub mod LegalByNodes
 pub mod Weight
+pub mod Size
