@@ -1,3 +1,39 @@
 //! An implementation of document 01 that shares nothing with the proved one, and what the tests need around it.
 
+pub mod generate;
+pub mod plain;
 pub mod random;
+pub mod reference;
+pub mod suite;
+
+/// What a call answers: number 0 is done; after a refusal the count is 0.
+#[repr(C)]
+#[derive(Clone, Copy, Debug, PartialEq, Eq)]
+pub struct Answer {
+    pub number: u32,
+    pub place: u64,
+    pub count: u64,
+}
+
+impl Answer {
+    pub fn done(count: usize) -> Answer {
+        Answer {
+            number: 0,
+            place: 0,
+            count: count as u64,
+        }
+    }
+
+    pub fn refused(number: u32, place: usize) -> Answer {
+        Answer {
+            number,
+            place: place as u64,
+            count: 0,
+        }
+    }
+}
+
+pub type Read = fn(&[u8]) -> Answer;
+pub type Write = fn(&[u8], &[u8], &[u8], &mut [u8]) -> Answer;
+pub type Report = fn(u32, u32, &[u8], &[u8], &mut [u8]) -> Answer;
+pub type Repair = fn(u32, u32, &[u8], &mut [u8]) -> Answer;

@@ -1,0 +1,303 @@
+//! Reader and writer: refusals 2 to 11 and 16.
+
+use crate::generate::{any_file, any_net, damage_file, damaged_sections, net, Shape};
+use crate::random::Random;
+use crate::reference::net::{file, read as expected_read, write as expected_write, Net};
+use crate::{Read, Write};
+
+fn largest_net(random: &mut Random) -> Net {
+    let shape = Shape {
+        nodes: 256,
+        longest: 200,
+        obstacles: 256,
+    };
+    net(random, shape)
+}
+
+fn compare_read(read: Read, file: &[u8]) -> u32 {
+    let expected = expected_read(file);
+    assert_eq!(read(file), expected, "{} bytes: {file:?}", file.len());
+    expected.number
+}
+
+/// The writer with this many bytes lent.
+fn compare_write(write: Write, [nodes, wires, obstacles]: &[Vec<u8>; 3], lent: usize) -> u32 {
+    let before: Vec<u8> = (0..lent).map(|k| (k * 7 + 13) as u8).collect();
+    let (mut out, mut expected_out) = (before.clone(), before);
+    let expected = expected_write(nodes, wires, obstacles, &mut expected_out);
+    assert_eq!(
+        write(nodes, wires, obstacles, &mut out),
+        expected,
+        "{nodes:?} {wires:?} {obstacles:?} {lent}"
+    );
+    assert!(
+        out == expected_out,
+        "bytes differ: {nodes:?} {wires:?} {obstacles:?} {lent}"
+    );
+    expected.number
+}
+
+/// Random files and sections, good and damaged; every refusal is met often.
+pub fn random_files(read: Read, write: Write, cases: usize) {
+    let mut random = Random::new(10);
+    let mut read_met = [0usize; 17];
+    let mut write_met = [0usize; 17];
+    for _ in 0..cases {
+        let file = any_file(&mut random);
+        read_met[compare_read(read, &file) as usize] += 1;
+
+        let sections = damaged_sections(&mut random);
+        let needed: usize = 28 + sections.iter().map(Vec::len).sum::<usize>();
+        let lent = match random.below(6) {
+            0 => random.below(needed as u64) as usize,
+            1 => needed - 1,
+            2 => needed,
+            _ => needed + random.below(20) as usize,
+        };
+        write_met[compare_write(write, &sections, lent) as usize] += 1;
+    }
+    println!("read answers by number: {read_met:?}");
+    println!("write answers by number: {write_met:?}");
+    for number in [0, 2, 3, 4, 5, 6, 7, 8, 9, 10, 11] {
+        assert!(read_met[number] * 400 > cases, "refusal {number} by read");
+    }
+    for number in [0, 4, 5, 6, 7, 8, 9, 10, 11, 16] {
+        assert!(write_met[number] * 400 > cases, "refusal {number} by write");
+    }
+}
+
+/// What the writer wrote is read again, and cut at every length it is refused.
+pub fn cut_at_every_length(read: Read, write: Write) {
+    let mut random = Random::new(11);
+    for k in 0..20 {
+        let net = if k == 0 {
+            largest_net(&mut random)
+        } else {
+            any_net(&mut random)
+        };
+        let mut out = vec![0; net.file().len()];
+        let answer = write(
+            &net.node_section(),
+            &net.wire_section(),
+            &net.obstacle_section(),
+            &mut out,
+        );
+        assert_eq!(answer.number, 0);
+        assert_eq!(answer.count, out.len() as u64);
+        assert_eq!(compare_read(read, &out), 0);
+        for length in 0..out.len() {
+            assert!(compare_read(read, &out[..length]) != 0);
+        }
+        out.push(0);
+        assert_eq!(compare_read(read, &out), 3);
+    }
+}
+
+/// Each byte of a file and of the sections in turn is changed.
+pub fn damaged_at_every_byte(read: Read, write: Write) {
+    let mut random = Random::new(12);
+    for k in 0..20 {
+        let net = if k == 0 {
+            largest_net(&mut random)
+        } else {
+            any_net(&mut random)
+        };
+        let mut bytes = net.file();
+        for at in 0..bytes.len() {
+            let kept = bytes[at];
+            for bit in 0..8 {
+                bytes[at] = kept ^ (1 << bit);
+                compare_read(read, &bytes);
+            }
+            bytes[at] = random.next() as u8;
+            compare_read(read, &bytes);
+            bytes[at] = kept;
+        }
+        let mut sections = [
+            net.node_section(),
+            net.wire_section(),
+            net.obstacle_section(),
+        ];
+        for s in 0..3 {
+            for at in 0..sections[s].len() {
+                let kept = sections[s][at];
+                sections[s][at] = random.pick(&[0, 1, 4, 17, 255, kept ^ 1, kept ^ 128]);
+                compare_write(write, &sections, bytes.len());
+                sections[s][at] = kept;
+            }
+        }
+    }
+}
+
+/// The writer with every length of buffer up to the need and some bytes more.
+pub fn every_length_lent(write: Write) {
+    let mut random = Random::new(13);
+    for _ in 0..30 {
+        let net = any_net(&mut random);
+        let sections = [
+            net.node_section(),
+            net.wire_section(),
+            net.obstacle_section(),
+        ];
+        let needed = net.file().len();
+        for lent in 0..needed + 10 {
+            let number = compare_write(write, &sections, lent);
+            assert_eq!(number, if lent < needed { 16 } else { 0 });
+        }
+    }
+}
+
+/// Offsets and lengths at the edges of 32 bits, some of which add up only if sums wrap.
+pub fn heads_at_the_edges(read: Read, cases: usize) {
+    let mut random = Random::new(14);
+    let mut met = [0usize; 17];
+    let edges: [u32; 14] = [
+        0,
+        1,
+        5,
+        27,
+        28,
+        29,
+        33,
+        0x7fff_ffff,
+        0x8000_0000,
+        u32::MAX - 27,
+        u32::MAX - 32,
+        u32::MAX - 4,
+        u32::MAX - 1,
+        u32::MAX,
+    ];
+    for _ in 0..cases {
+        let net = any_net(&mut random);
+        let mut bytes = net.file();
+        if random.chance(1, 2) {
+            // ends that fit after wrapping
+            let first = random.pick(&edges);
+            let second = random.pick(&edges);
+            let total = bytes.len() as u32;
+            let numbers = [
+                28,
+                first,
+                28u32.wrapping_add(first),
+                second,
+                28u32.wrapping_add(first).wrapping_add(second),
+                total
+                    .wrapping_sub(28)
+                    .wrapping_sub(first)
+                    .wrapping_sub(second),
+            ];
+            for (k, number) in numbers.into_iter().enumerate() {
+                bytes[4 + 4 * k..8 + 4 * k].copy_from_slice(&number.to_le_bytes());
+            }
+        } else {
+            for _ in 0..random.range(1, 6) {
+                let at = 4 + 4 * random.below(6) as usize;
+                bytes[at..at + 4].copy_from_slice(&random.pick(&edges).to_le_bytes());
+            }
+            if random.chance(1, 4) {
+                damage_file(&mut random, &mut bytes);
+            }
+        }
+        met[compare_read(read, &bytes) as usize] += 1;
+    }
+    assert!(met[3] * 2 > cases);
+}
+
+/// Bytes that are all 0 and take no memory until they are written.
+struct Zeros {
+    start: *mut u8,
+    length: usize,
+}
+
+extern "C" {
+    fn mmap(
+        at: *mut u8,
+        length: usize,
+        protection: i32,
+        flags: i32,
+        file: i32,
+        from: i64,
+    ) -> *mut u8;
+    fn munmap(at: *mut u8, length: usize) -> i32;
+}
+
+impl Zeros {
+    fn new(length: usize) -> Zeros {
+        // read and write; private, of no file, nothing set aside
+        let start = unsafe { mmap(std::ptr::null_mut(), length, 3, 0x4022, -1, 0) };
+        assert!(start as isize != -1, "no room for {length} bytes");
+        Zeros { start, length }
+    }
+
+    fn bytes(&mut self) -> &mut [u8] {
+        unsafe { std::slice::from_raw_parts_mut(self.start, self.length) }
+    }
+}
+
+impl Drop for Zeros {
+    fn drop(&mut self) {
+        unsafe { munmap(self.start, self.length) };
+    }
+}
+
+/// Files of more than 2^32 bytes: nothing of a length is lost.
+pub fn very_long_files(read: Read, write: Write) {
+    const WHOLE: usize = 1 << 32;
+    let mut zeros = Zeros::new(WHOLE + (1 << 20));
+    let all = zeros.bytes();
+    let mut case = |lengths: [u32; 3], length: usize, number: u32| {
+        let mut offset = 28u32;
+        all[..4].copy_from_slice(&[1, 0, 3, 0]);
+        for (k, part) in lengths.into_iter().enumerate() {
+            all[4 + 8 * k..8 + 8 * k].copy_from_slice(&offset.to_le_bytes());
+            all[8 + 8 * k..12 + 8 * k].copy_from_slice(&part.to_le_bytes());
+            offset = offset.wrapping_add(part);
+        }
+        let answer = read(&all[..length]);
+        assert_eq!(answer, expected_read(&all[..length]));
+        assert_eq!(answer.number, number, "{lengths:?} in {length} bytes");
+    };
+    // the length of the file taken by 32 bits would fit
+    case([5, 0, 0], WHOLE + 33, 3);
+    case([5, 0, 8], WHOLE + 41, 3);
+    case([5, 0, 0], 33, 0);
+    // files that really are so long
+    case([5, 0, u32::MAX - 7], WHOLE + 33 - 8, 6);
+    case([5, u32::MAX - 33, 800], WHOLE - 1 + 800, 5);
+    case([u32::MAX - 28, 0, 800], WHOLE - 1 + 800, 4);
+    case([u32::MAX - 28, 0, 1], WHOLE, 4);
+    case([5, 0, u32::MAX - 32], WHOLE, 6);
+
+    // sections whose lengths taken by 32 bits would fit
+    let all = zeros.bytes();
+    let mut out = vec![0xa5; 100];
+    for (lengths, number) in [
+        ([WHOLE + 5, 0, 0], 4),
+        ([5, WHOLE, 0], 5),
+        ([5, 0, WHOLE], 6),
+        ([5, 0, WHOLE + 8], 6),
+    ] {
+        all[..28].fill(0);
+        let [nodes, wires, obstacles] = lengths.map(|length| &all[..length]);
+        let answer = write(nodes, wires, obstacles, &mut out);
+        assert_eq!((answer.number, answer.place, answer.count), (number, 0, 0));
+        assert!(out.iter().all(|&b| b == 0xa5));
+    }
+}
+
+/// Sections and buffers of length 0, and the smallest net.
+pub fn empty_and_smallest(read: Read, write: Write) {
+    assert_eq!(compare_read(read, &[]), 2);
+    let empty = || Vec::new();
+    assert_eq!(compare_write(write, &[empty(), empty(), empty()], 0), 4);
+    let one = vec![9, 0, 8, 0, 3];
+    assert_eq!(
+        compare_write(write, &[one.clone(), empty(), empty()], 0),
+        16
+    );
+    assert_eq!(
+        compare_write(write, &[one.clone(), empty(), empty()], 33),
+        0
+    );
+    assert_eq!(compare_read(read, &file(&one, &[], &[])), 0);
+}
