@@ -7,8 +7,8 @@ use native.Mathlib.Omega.{arith}
 use native.Mathlib.Nat.{mul-zero, sub-zero}
 use lib.Dec.{leb, ltb, eqb}
 use borrow.Author.Tests.{ltb-true, ltb-false, leb-true, leb-false, lt-ltb, le-ltb, le-leb, lt-leb, eq-eqb, ne-eqb}
-use Rattle.laws.specs.Sum.{χ, sum, highest}
-use Rattle.laws.specs.Sums.{by, no-both, not-true-false, and-left, and-right, and-intro, and-no-left, and-no-right, χ-yes, χ-no, χ-ap, χ-and, χ-zero, sum-ap, sum-+, sum-zero, sum-one, sum-stretch, highest-≥, highest-last}
+use Rattle.laws.specs.Sum.{χ, sum, any, highest}
+use Rattle.laws.specs.Sums.{by, no-both, not-true-false, and-left, and-right, and-intro, and-no-left, and-no-right, χ-yes, χ-no, χ-ap, χ-and, χ-zero, sum-ap, sum-+, sum-zero, sum-one, sum-stretch, highest-passes, highest-none, highest-≥, highest-last}
 use Rattle.net.specs.Stage.{Stage, Formed}
 use Rattle.pieces.specs.Piece.{Points, Element, node, step, Real, a-node, a-step, Group, weightOf}
 use Rattle.pieces.specs.Name.{Inside, cutAt, firstJumper, lastJumper, lowestNode, stepNumber, stepPosition, isReal, named}
@@ -113,3 +113,48 @@ module _ (s : Stage) (J : Points) (inside : Inside s J) where
   pub class-weight : (h : ℕ) → weightOf s (named s J h 0) ≡ nodeWeight s J h
   unfolding weightOf nodeWeight
   class-weight h = sum-ap (s .nodes) (λ i l. χ-ap (s .present i) (λ p. wire-adds s J inside h i p))
+
+  -- the weight of the stretch between the consecutive jumpers p and q of wire i
+  pub stretch-weight : Formed s → (i p q : ℕ) → s .present i ≡ true → J i p ≡ true → J i q ≡ true → p < q → ((t : ℕ) → p < t → t < q → J i t ≡ false) →
+      weightOf s (named s J i p) ≡ (q - p) * s .factor i
+  unfolding weightOf
+  stretch-weight formed i p q present at-p at-q less none =
+      sum-one (s .nodes) i adds (formed .inside i present) (λ j l ne. χ-ap (s .present j) (λ w. others j ne) ∙ χ-zero (s .present j))
+      ∙ (χ-yes (sum (s .len i) (λ t. χ (named s J i p (step i (suc t))) (s .factor i))) present ∙ own)
+    where
+      adds : ℕ → ℕ
+      adds j = χ (s .present j) (sum (s .len j) (λ t. χ (named s J i p (step j (suc t))) (s .factor j)))
+
+      low : 1 ≤ p
+      low = inside i p at-p .0
+
+      others : (j : ℕ) → (j ≡ i → ⊥) → sum (s .len j) (λ t. χ (named s J i p (step j (suc t))) (s .factor j)) ≡ 0
+      others j ne =
+          sum-zero (s .len j) (λ t l.
+          χ-no (s .factor j) (not-true-false (named s J i p (step j (suc t))) (λ y. ne (sym (named-stretch s J formed inside i p j (suc t) low y .0)))))
+
+      out : (t : ℕ) → (highest (suc t) (λ x. J i x) ≡ p → ⊥) → χ (named s J i p (step i (suc t))) (s .factor i) ≡ 0
+      out t ne = χ-no (s .factor i) (not-true-false (named s J i p (step i (suc t))) (λ y. ne (named-stretch s J formed inside i p i (suc t) low y .3)))
+
+      below : (t : ℕ) → highest (suc t) (λ x. J i x) ≡ p → p < suc t
+      below t e =
+          by (any (suc t) (λ x. J i x))
+          (λ y. let r = highest-passes (suc t) (λ x. J i x) y in omega (arith, r .0))
+          (λ z. let r = highest-none (suc t) (λ x. J i x) z in omega arith)
+
+      own : sum (s .len i) (λ t. χ (named s J i p (step i (suc t))) (s .factor i)) ≡ (q - p) * s .factor i
+      own =
+          let b = inside i q at-q in
+          sum-stretch (s .len i) p q (s .factor i) (λ t. χ (named s J i p (step i (suc t))) (s .factor i)) (omega arith) (omega arith)
+          (λ t y z.
+          let f = first-least s J inside i p at-p in
+          let l = last-most s J inside i q at-q in
+          let f′ : firstJumper s J i < suc t = omega arith in
+          let l′ : suc t ≤ lastJumper s J i = omega arith in
+          χ-yes (s .factor i)
+          (named-yes s J (step i (suc t)) (a-step {t = suc t} present (omega arith) (omega arith)) (number-mid s J inside i (suc t) f′ l′)
+          (position-mid s J inside i (suc t) f′ l′ ∙ highest-last (suc t) p (λ x. J i x) (omega arith) at-p (λ x u v. none x u (omega arith)))))
+          (λ t y z.
+          out t (λ e. let r = below t e in omega arith))
+          (λ t y z.
+          out t (λ e. let r = highest-≥ (suc t) q (λ x. J i x) (omega arith) at-q in omega arith))
