@@ -2,3 +2,5 @@ pub mod Sum
 pub mod Sums
 pub mod Tree
 pub mod Bytes
+pub mod Gather
+pub mod Gathers
