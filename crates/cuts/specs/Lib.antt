@@ -5,6 +5,7 @@ pub mod ChosenModes
 pub mod ChosenGood
 pub mod ChosenCount
 pub mod ChosenQuiet
+pub mod Bounds
 pub mod LowerLargest
 pub mod LowerLightest
 pub mod BridgeFits
