@@ -1,12 +1,12 @@
 -- What follows from `Fits`: free points, cluster roots and components, and that the clusters are sound.
 -- Assumes nothing.
-use Prim.Native.Nat.{ℕ, suc, _+_, _-_, _*_, _≤_, _<_}
+use Prim.Native.Nat.{ℕ, _+_, _-_, _*_, _≤_, _<_}
 use mathlib.Core.Path.{_≡_, refl, sym, _∙_, ap}
 use mathlib.Core.Bool.{Bool, true, false, not, _&&_}
 use native.Mathlib.Omega.{arith}
-use lib.Dec.{leb, ltb, eqb}
+use lib.Dec.{leb, ltb}
 use borrow.Author.Tests.{leb-true, ltb-true, not-true, le-leb, lt-ltb}
-use Rattle.laws.specs.Sum.{χ, sum}
+use Rattle.laws.specs.Sum.{sum}
 use Rattle.laws.specs.Sums.{by, and-left, and-right, and-intro, and-no-left, and-no-right, up}
 use Rattle.net.specs.Stage.{Stage, Formed}
 use Rattle.pieces.specs.Legal.{Free}

@@ -13,3 +13,4 @@ pub mod LowerParts
 pub mod LowerWire
 pub mod LowerCount
 pub mod LowerClosing
+pub mod BridgeWeight
