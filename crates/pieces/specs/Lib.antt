@@ -8,5 +8,6 @@ pub mod Names
 pub mod Named
 pub mod Weights
 pub mod LegalByNodes
+pub mod Report
 pub mod Weight
 pub mod Size
