@@ -9,14 +9,18 @@ use native.Mathlib.Nat.{mul-le-mul-left}
 use lib.Dec.{leb, eqb}
 use borrow.Author.Tests.{eqb-true, leb-true, le-leb}
 use Rattle.laws.specs.Sum.{χ, sum}
-use Rattle.laws.specs.Sums.{by, no-both, and-left, and-right, χ-mono, χ-+, sum-≤, sum-+, sum-const, down}
+use Rattle.laws.specs.Sums.{by, no-both, and-left, and-right, χ-yes, χ-mono, χ-+, sum-≤, sum-+, sum-const, down}
 use Rattle.laws.specs.Tree.{tree, tree-is, joined-rising, roots-flat, tree-≤}
 use Rattle.cuts.specs.Cluster.{Clusters, Sound, hangs, span}
 use Rattle.cuts.specs.Passes.{Down, Closed, Climbed, Counted, anyLeft, anyCuts, ungatedLeft, ungatedCuts, belowCount, total, only-any, both, only-ungated, without-gate, within-limit, with-jumper}
 
+-- the weight of cluster r's own wire between its lowest and its highest cuttable point
+abbrev pub ownSpan : Clusters → ℕ → ℕ
+ownSpan c r = χ (c .cuttable r) (span c r)
+
 -- all the weight there is
 unfoldable pub allWeight : Clusters → ℕ
-allWeight c = sum (c .nodes) (λ i. c .fixed i + span c i)
+allWeight c = sum (c .nodes) (λ i. c .fixed i + ownSpan c i)
 
 -- the branches of cluster r
 abbrev pub branchCount : Clusters → ℕ → ℕ
@@ -24,7 +28,7 @@ branchCount c r = sum (c .nodes) (λ j. χ (hangs c r j) 1)
 
 -- the weight of cluster i's tree, and twice its number of clusters
 weightTree : Clusters → ℕ → ℕ
-weightTree c = tree (c .nodes) (hangs c) (λ i. c .fixed i + span c i)
+weightTree c = tree (c .nodes) (hangs c) (λ i. c .fixed i + ownSpan c i)
 
 countTree : Clusters → ℕ → ℕ
 countTree c = tree (c .nodes) (hangs c) (λ i. 2)
@@ -37,25 +41,25 @@ record BranchWithin (c : Clusters) (d : Down) (j : ℕ) : Type 0 where
 
 -- and so are the sums over cluster r's branches, and what it is closed with
 record SumsWithin (c : Clusters) (d : Down) (r : ℕ) : Type 0 where
-  light : c .fixed r + sum (c .nodes) (λ j. χ (hangs c r j) (d .lightest j)) + span c r ≤ weightTree c r
-  ungated : ungatedLeft c d r + span c r ≤ weightTree c r
+  light : c .fixed r + sum (c .nodes) (λ j. χ (hangs c r j) (d .lightest j)) + ownSpan c r ≤ weightTree c r
+  ungated : ungatedLeft c d r + ownSpan c r ≤ weightTree c r
   count : belowCount c d r + branchCount c r + 2 ≤ countTree c r
 
 record ClusterWithin (c : Clusters) (d : Down) (r : ℕ) : Type 0 where
-  any : d .anyWeight r + span c r ≤ weightTree c r
-  ungated : d .ungatedOk r ≡ true → d .ungatedWeight r + span c r ≤ weightTree c r
+  any : d .anyWeight r + ownSpan c r ≤ weightTree c r
+  ungated : d .ungatedOk r ≡ true → d .ungatedWeight r + ownSpan c r ≤ weightTree c r
   count : d .fewest r + 2 ≤ countTree c r
 
 -- the sums over cluster r's branches, before it is closed
 pub record SumsBounded (c : Clusters) (d : Down) (r : ℕ) : Type 0 where
-  pub light : c .fixed r + sum (c .nodes) (λ j. χ (hangs c r j) (d .lightest j)) + span c r ≤ allWeight c
-  pub ungated : ungatedLeft c d r + span c r ≤ allWeight c
+  pub light : c .fixed r + sum (c .nodes) (λ j. χ (hangs c r j) (d .lightest j)) + ownSpan c r ≤ allWeight c
+  pub ungated : ungatedLeft c d r + ownSpan c r ≤ allWeight c
   pub count : belowCount c d r + branchCount c r + 2 ≤ 2 * c .nodes
 
 -- what cluster r is closed with
 pub record ClusterBounded (c : Clusters) (d : Down) (r : ℕ) : Type 0 where
-  pub any : d .anyWeight r + span c r ≤ allWeight c
-  pub ungated : d .ungatedOk r ≡ true → d .ungatedWeight r + span c r ≤ allWeight c
+  pub any : d .anyWeight r + ownSpan c r ≤ allWeight c
+  pub ungated : d .ungatedOk r ≡ true → d .ungatedWeight r + ownSpan c r ≤ allWeight c
   pub count : d .fewest r + 2 ≤ 2 * c .nodes
 
 -- what branch j adds
@@ -74,9 +78,9 @@ part-≤ n h k {f} {g} less = sum-≤ n (λ j p. go j p (h j) (k j) refl refl)
     go j p false b x y = omega arith
 
 module _ (c : Clusters) (limit : ℕ) (d : Down) (s : Sound c) (m : ℕ) (counted : Counted c limit d m) where
-  weight-tree : (r : ℕ) → r < c .nodes → weightTree c r ≡ (c .fixed r + span c r) + sum (c .nodes) (λ j. χ (hangs c r j) (weightTree c j))
+  weight-tree : (r : ℕ) → r < c .nodes → weightTree c r ≡ (c .fixed r + ownSpan c r) + sum (c .nodes) (λ j. χ (hangs c r j) (weightTree c j))
   unfolding weightTree
-  weight-tree = tree-is (c .nodes) (hangs c) (λ i. c .fixed i + span c i) (joined-rising (c .nodes) (c .cuttable) (c .host) (s .host-below))
+  weight-tree = tree-is (c .nodes) (hangs c) (λ i. c .fixed i + ownSpan c i) (joined-rising (c .nodes) (c .cuttable) (c .host) (s .host-below))
 
   count-tree : (r : ℕ) → r < c .nodes → countTree c r ≡ 2 + sum (c .nodes) (λ j. χ (hangs c r j) (countTree c j))
   unfolding countTree
@@ -84,7 +88,7 @@ module _ (c : Clusters) (limit : ℕ) (d : Down) (s : Sound c) (m : ℕ) (counte
 
   weight-all : (r : ℕ) → r < c .nodes → weightTree c r ≤ allWeight c
   unfolding allWeight
-  weight-all r p = tree-≤ (c .nodes) (c .cuttable) (c .host) (λ i. c .fixed i + span c i) (weightTree c) (s .host-below) weight-tree r p
+  weight-all r p = tree-≤ (c .nodes) (c .cuttable) (c .host) (λ i. c .fixed i + ownSpan c i) (weightTree c) (s .host-below) weight-tree r p
 
   count-all : (r : ℕ) → r < c .nodes → countTree c r ≤ 2 * c .nodes
   count-all r p =
@@ -157,6 +161,7 @@ module _ (c : Clusters) (limit : ℕ) (d : Down) (s : Sound c) (m : ℕ) (counte
   branch-within : (j : ℕ) → j < c .nodes → c .cuttable j ≡ true → ClusterWithin c d j → Climbed c limit d j → BranchWithin c d j
   branch-within j p cj w (without-gate g k e h v l) =
       let a = w .ungated g in
+      let own = χ-yes (span c j) cj in
       record {
         light = by (leb (d .anyWeight j + span c j) limit)
             (λ y. let l′ : d .lightest j ≡ d .anyWeight j + span c j = rw y at l in omega (arith, w .any))
@@ -165,11 +170,13 @@ module _ (c : Clusters) (limit : ℕ) (d : Down) (s : Sound c) (m : ℕ) (counte
         count = omega (arith, w .count);
       }
   branch-within j p cj w (within-limit g x k e h l) =
+      let own = χ-yes (span c j) cj in
       record { light = omega (arith, w .any); ungated = λ y. absurd (no-both y h); count = omega (arith, w .count) }
   branch-within j p cj w (with-jumper g x k f b t h v l) =
       let lo = s .lo-least j (d .near j) p cj f in
       let above : c .hi j - d .near j ≤ c .hi j - c .lo j = omega arith in
       let a = mul-le-mul-left (c .factor j) above in
+      let own = χ-yes (span c j) cj in
       let z = w .any in
       record { light = omega arith; ungated = λ y. omega arith; count = omega (arith, w .count) }
 
