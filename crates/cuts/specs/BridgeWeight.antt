@@ -135,7 +135,7 @@ regroup-four n q a b k m x y z w ka mb =
     omega arith)
 
 -- what a branch adds to its host, by its cut
-adds-split :
+pub adds-split :
     (k t q : Bool) (a w x d : ℕ) →
     (k ≡ true → t ≡ true → a ≡ x) →
     (k ≡ true → t ≡ false → a ≡ w + d) →
@@ -146,7 +146,7 @@ adds-split true false true a w x d f g = let y = g refl refl in omega arith
 adds-split true false false a w x d f g = refl
 adds-split false t q a w x d f g = refl
 
-χ-exchange : (k q t : Bool) (x : ℕ) → χ ((k && q) && t) x ≡ χ ((k && t) && q) x
+pub χ-exchange : (k q t : Bool) (x : ℕ) → χ ((k && q) && t) x ≡ χ ((k && t) && q) x
 χ-exchange true true true x = refl
 χ-exchange true true false x = refl
 χ-exchange true false true x = refl

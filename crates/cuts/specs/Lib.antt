@@ -14,3 +14,4 @@ pub mod LowerWire
 pub mod LowerCount
 pub mod LowerClosing
 pub mod BridgeWeight
+pub mod BridgeGood
