@@ -2,16 +2,19 @@
 -- and no count twice the number of nodes.
 -- Assumes nothing.
 use Prim.Native.Nat.{ℕ, suc, _+_, _-_, _*_, _≤_, _<_}
-use mathlib.Core.Path.{_≡_, refl}
+use mathlib.Core.Path.{_≡_, refl, ap}
 use mathlib.Core.Bool.{Bool, true, false, not, _&&_}
 use native.Mathlib.Omega.{arith}
-use native.Mathlib.Nat.{mul-le-mul-left}
-use lib.Dec.{leb, eqb}
-use borrow.Author.Tests.{eqb-true, leb-true, le-leb}
+use native.Mathlib.Nat.{mul-le-mul-left, lt-irrefl, add-mul, mul-comm}
+use lib.Dec.{leb, ltb, eqb}
+use borrow.Author.Tests.{eqb-true, leb-true, le-leb, ltb-true, ltb-false, ne-eqb}
 use Rattle.laws.specs.Sum.{χ, sum}
-use Rattle.laws.specs.Sums.{by, no-both, and-left, and-right, χ-yes, χ-mono, χ-+, sum-≤, sum-+, sum-const, down}
+use Rattle.laws.specs.Sums.{by, no-both, and-left, and-right, and-no-right, χ-≤, χ-yes, χ-no, χ-mono, χ-+, sum-ap, sum-≤, sum-+, sum-zero, sum-swap, sum-pick′, sum-const, down}
 use Rattle.laws.specs.Tree.{tree, tree-is, joined-rising, roots-flat, tree-≤}
 use Rattle.cuts.specs.Cluster.{Clusters, Sound, hangs, span}
+use Rattle.net.specs.Stage.{Stage, Formed}
+use Rattle.cuts.specs.Fits.{Fits, fixedPart}
+use Rattle.cuts.specs.BridgeFits.{sum-nodes, hi-point, lo-≤-hi}
 use Rattle.cuts.specs.Passes.{Down, Closed, Climbed, Counted, anyLeft, anyCuts, ungatedLeft, ungatedCuts, belowCount, total, only-any, both, only-ungated, without-gate, within-limit, with-jumper}
 
 -- the weight of cluster r's own wire between its lowest and its highest cuttable point
@@ -241,3 +244,79 @@ total-≤ c limit d s counted =
     {g = λ r. χ (leb 0 r && not (c .cuttable r)) (d .fewest r)}
     (λ r p. rw (le-leb 0 r (omega arith)) (omega arith)) in
     omega arith
+
+-- ---- all the weight there is, in a net at a stage
+pick-≤ : (n k x : ℕ) → sum n (λ r. χ (eqb k r) x) ≤ x
+pick-≤ n k x =
+    by (ltb k n)
+    (λ y. let a = sum-pick′ n k (λ r. x) (ltb-true k n y) in omega arith)
+    (λ z.
+    let b = ltb-false k n z in
+    let a = sum-zero n {f = λ r. χ (eqb k r) x} (λ r p. χ-no x (ne-eqb k r (λ e. lt-irrefl r (omega arith)))) in
+    omega arith)
+
+-- with tests that do not depend on the place
+pick-if-≤ : (n k x : ℕ) (t : Bool) → sum n (λ r. χ (t && eqb k r) x) ≤ χ t x
+pick-if-≤ n k x true = pick-≤ n k x
+pick-if-≤ n k x false = let a = sum-zero n {f = λ r. 0} (λ r p. refl) in omega arith
+
+pick-both-≤ : (n k x : ℕ) (t u : Bool) → sum n (λ r. χ (t && (u && eqb k r)) x) ≤ χ (t && u) x
+pick-both-≤ n k x true u = pick-if-≤ n k x u
+pick-both-≤ n k x false u = let a = sum-zero n {f = λ r. 0} (λ r p. refl) in omega arith
+
+-- a wire in three parts
+three-parts : (lo hi len k : ℕ) → lo ≤ hi → hi ≤ len → lo * k + (len - hi) * k + k * (hi - lo) ≡ len * k
+three-parts lo hi len k p q =
+    let a = add-mul (lo + (len - hi)) (hi - lo) k in
+    let b = add-mul lo (len - hi) k in
+    let e = mul-comm k (hi - lo) in
+    let l : lo + (len - hi) + (hi - lo) ≡ len = omega arith in
+    let f = ap (λ (x : ℕ). x * k) l in
+    omega arith
+
+module _ (s : Stage) (c : Clusters) (root component : ℕ → ℕ) (formed : Formed s) (fits : Fits s c root component) where
+  -- what wire i gives to all clusters, with its span
+  given : (i : ℕ) → i < s .nodes → sum (s .nodes) (λ r. fixedPart s c root r i) + ownSpan c i ≤ s .len i * s .factor i
+  unfolding fixedPart
+  given i p =
+      let n = s .nodes in
+      let f : ℕ → ℕ = λ r. χ (s .present i && (not (c .cuttable i) && eqb (root i) r)) (s .len i * s .factor i) in
+      let g : ℕ → ℕ = λ r. χ (c .cuttable i && eqb i r) (c .lo i * s .factor i) in
+      let h : ℕ → ℕ = λ r. χ (c .cuttable i && eqb (c .host i) r) ((s .len i - c .hi i) * s .factor i) in
+      let a = sum-+ n f (λ r. g r + h r) in
+      let b = sum-+ n g h in
+      let inner = pick-both-≤ n (root i) (s .len i * s .factor i) (s .present i) (not (c .cuttable i)) in
+      let low = pick-if-≤ n i (c .lo i * s .factor i) (c .cuttable i) in
+      let high = pick-if-≤ n (c .host i) ((s .len i - c .hi i) * s .factor i) (c .cuttable i) in
+      let e = fits .factor-is i p in
+      by (c .cuttable i)
+      (λ y.
+      let x = χ-no (s .len i * s .factor i) (and-no-right (s .present i) (ap not y)) in
+      let u = χ-yes (c .lo i * s .factor i) y in
+      let v = χ-yes ((s .len i - c .hi i) * s .factor i) y in
+      let w = χ-yes (span c i) y in
+      let k = ap (λ (k : ℕ). k * (c .hi i - c .lo i)) e in
+      let top = hi-point s c root component formed fits i p y .high in
+      let t = three-parts (c .lo i) (c .hi i) (s .len i) (s .factor i) (lo-≤-hi s c root component formed fits i p y) (omega arith) in
+      omega arith)
+      (λ z.
+      let x = χ-≤ (s .present i && not (c .cuttable i)) (s .len i * s .factor i) in
+      let u = χ-no (c .lo i * s .factor i) z in
+      let v = χ-no ((s .len i - c .hi i) * s .factor i) z in
+      let w = χ-no (span c i) z in
+      omega arith)
+
+  pub allWeight-≤ : allWeight c ≤ sum (s .nodes) (λ i. s .len i * s .factor i)
+  unfolding allWeight
+  allWeight-≤ =
+      let a = sum-nodes s c root component formed fits (λ i. c .fixed i + ownSpan c i) in
+      let b = sum-+ (s .nodes) (c .fixed) (ownSpan c) in
+      let e = sum-ap (s .nodes) {f = c .fixed} {g = λ r. sum (s .nodes) (λ i. fixedPart s c root r i)} (λ r p. fits .fixed-is r p) in
+      let f = sum-swap (s .nodes) (s .nodes) (λ r i. fixedPart s c root r i) in
+      let g = sum-+ (s .nodes) (λ i. sum (s .nodes) (λ r. fixedPart s c root r i)) (ownSpan c) in
+      let h =
+      sum-≤ (s .nodes)
+      {f = λ i. sum (s .nodes) (λ r. fixedPart s c root r i) + ownSpan c i}
+      {g = λ i. s .len i * s .factor i}
+      given in
+      omega arith
