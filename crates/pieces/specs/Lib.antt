@@ -9,5 +9,6 @@ pub mod Named
 pub mod Weights
 pub mod LegalByNodes
 pub mod Report
+pub mod Listed
 pub mod Weight
 pub mod Size
