@@ -1,0 +1,3 @@
+pub mod Cases
+pub mod Decide
+pub mod Shown

@@ -1,0 +1,1 @@
+// Mathematics alone: see specs/.
