@@ -6,6 +6,7 @@ pub mod ChosenGood
 pub mod ChosenCount
 pub mod ChosenQuiet
 pub mod Bounds
+pub mod Example
 pub mod LowerLargest
 pub mod LowerLightest
 pub mod BridgeFits

@@ -1,0 +1,226 @@
+-- A run of both passes on net J of document 01 at limit 20: what the theorems assume can be met.
+-- Assumes nothing.
+use Prim.Native.Nat.{ℕ, zero, suc, _≤_, _<_}
+use mathlib.Core.Path.{_≡_, refl}
+use mathlib.Core.Bool.{true, false, _&&_}
+use mathlib.Core.List.{[], _∷_}
+use mathlib.Core.Logic.{inl, inr}
+use native.Mathlib.Omega.{arith}
+use native.Mathlib.Nat.{lt-irrefl}
+use lib.ListN.{getD}
+use lib.Dec.{leb, ltb, eqb}
+use borrow.Author.Tests.{leb-true}
+use Rattle.laws.specs.Sum.{sum}
+use Rattle.laws.specs.Sums.{no-both, and-left, and-right}
+use Rattle.cuts.specs.Cluster.{Clusters, Sound, Parts, Good, hangs, pointCount}
+use Rattle.cuts.specs.Passes.{Down, Up, Closed, Climbed, Chosen, Run, Largest, chosenEffect, total, anyLeft, anyCuts, only-any, both, only-ungated, without-gate, within-limit}
+use Rattle.cuts.specs.ChosenGood.{chosen-good}
+use Rattle.cuts.specs.ChosenCount.{chosen-count}
+
+-- four wires of length 10 with no obstacle: node 1 on node 0, the others on node 1
+abbrev pub netJ : Clusters
+netJ =
+    record {
+      nodes = 5;
+      cuttable = λ j. ltb 0 j;
+      lo = λ j. 1;
+      hi = λ j. 9;
+      free = λ j t. leb 1 t && leb t 9;
+      factor = λ j. getD (1 ∷ 1 ∷ 1 ∷ 3 ∷ 3 ∷ []) j 0;
+      host = λ j. getD (0 ∷ 0 ∷ 1 ∷ 1 ∷ 1 ∷ []) j 0;
+      fixed = λ r. getD (1 ∷ 8 ∷ 1 ∷ 3 ∷ 3 ∷ []) r 0;
+      gates = λ r. getD (0 ∷ 0 ∷ 1 ∷ 0 ∷ 0 ∷ []) r 0;
+    }
+
+abbrev pub downJ : Down
+downJ =
+    record {
+      cutAny = λ j. getD (false ∷ true ∷ false ∷ true ∷ true ∷ []) j false;
+      fewest = λ r. getD (1 ∷ 1 ∷ 0 ∷ 0 ∷ 0 ∷ []) r 0;
+      anyOk = λ r. getD (false ∷ false ∷ true ∷ true ∷ true ∷ []) r false;
+      anyWeight = λ r. getD (71 ∷ 62 ∷ 1 ∷ 3 ∷ 3 ∷ []) r 0;
+      ungatedOk = λ r. getD (true ∷ true ∷ false ∷ true ∷ true ∷ []) r false;
+      ungatedWeight = λ r. getD (71 ∷ 62 ∷ 0 ∷ 3 ∷ 3 ∷ []) r 0;
+      count = λ j. getD (0 ∷ 1 ∷ 0 ∷ 0 ∷ 0 ∷ []) j 0;
+      lightest = λ j. getD (0 ∷ 70 ∷ 9 ∷ 27 ∷ 27 ∷ []) j 0;
+      hasUngated = λ j. getD (false ∷ true ∷ false ∷ true ∷ true ∷ []) j false;
+      ungated = λ j. getD (0 ∷ 70 ∷ 0 ∷ 27 ∷ 27 ∷ []) j 0;
+      near = λ j. 0;
+    }
+
+abbrev pub upJ : Up
+upJ = record { anyMode = λ r. eqb r 2; cutHigh = λ j. eqb j 2 }
+
+below-five : (P : ℕ → Type 0) → P 0 → P 1 → P 2 → P 3 → P 4 → (i : ℕ) → i < 5 → P i
+below-five P a b c d e zero p = a
+below-five P a b c d e (suc zero) p = b
+below-five P a b c d e (suc (suc zero)) p = c
+below-five P a b c d e (suc (suc (suc zero))) p = d
+below-five P a b c d e (suc (suc (suc (suc zero)))) p = e
+below-five P a b c d e (suc (suc (suc (suc (suc i))))) p = absurd (lt-irrefl 0 (omega arith))
+
+sound : Sound netJ
+sound =
+    record {
+      host-below =
+          below-five (λ j. netJ .cuttable j ≡ true → netJ .host j < j)
+          (λ y. absurd (no-both y refl))
+          (λ y. omega arith)
+          (λ y. omega arith)
+          (λ y. omega arith)
+          (λ y. omega arith);
+      positive = λ j p y. omega arith;
+      lo-free = λ j p y. refl;
+      hi-free = λ j p y. refl;
+      lo-least = λ j t p y f. leb-true 1 t (and-left (leb 1 t) (leb t 9) f);
+      hi-most = λ j t p y f. leb-true t 9 (and-right (leb 1 t) (leb t 9) f);
+    }
+
+-- a cluster without branches cuts none
+leaf : (r : ℕ) → ((j : ℕ) → j < 5 → hangs netJ r j ≡ false) → anyLeft netJ downJ r ≤ 20 → anyCuts netJ downJ r ≡ 0 → Largest netJ 20 downJ r 0
+leaf r none fits cuts =
+    record {
+      cut-heavy = λ j p h k. absurd (no-both h (none j p));
+      kept-light = λ j p h k. absurd (no-both h (none j p));
+      fits = fits;
+      no-fewer = λ p. absurd (lt-irrefl 0 (omega arith));
+    }
+
+-- at node 1 the any-option cuts wires 3 and 4
+largest : Largest netJ 20 downJ 1 27
+unfolding sum
+largest =
+    record {
+      cut-heavy =
+          below-five (λ j. hangs netJ 1 j ≡ true → downJ .cutAny j ≡ true → 27 ≤ downJ .lightest j)
+          (λ h k. absurd (no-both h refl))
+          (λ h k. omega arith)
+          (λ h k. absurd (no-both k refl))
+          (λ h k. omega arith)
+          (λ h k. omega arith);
+      kept-light =
+          below-five (λ j. hangs netJ 1 j ≡ true → downJ .cutAny j ≡ false → downJ .lightest j ≤ 27)
+          (λ h k. omega arith)
+          (λ h k. absurd (no-both h refl))
+          (λ h k. omega arith)
+          (λ h k. omega arith)
+          (λ h k. omega arith);
+      fits = omega arith;
+      no-fewer = λ p. omega arith;
+    }
+
+-- at node 0 it cuts wire 1
+largest-root : Largest netJ 20 downJ 0 70
+unfolding sum
+largest-root =
+    record {
+      cut-heavy =
+          below-five (λ j. hangs netJ 0 j ≡ true → downJ .cutAny j ≡ true → 70 ≤ downJ .lightest j)
+          (λ h k. absurd (no-both h refl))
+          (λ h k. omega arith)
+          (λ h k. absurd (no-both h refl))
+          (λ h k. absurd (no-both h refl))
+          (λ h k. absurd (no-both h refl));
+      kept-light =
+          below-five (λ j. hangs netJ 0 j ≡ true → downJ .cutAny j ≡ false → downJ .lightest j ≤ 70)
+          (λ h k. omega arith)
+          (λ h k. omega arith)
+          (λ h k. omega arith)
+          (λ h k. omega arith)
+          (λ h k. omega arith);
+      fits = omega arith;
+      no-fewer = λ p. omega arith;
+    }
+
+closed : (r : ℕ) → r < 5 → Closed netJ 20 downJ r
+unfolding sum
+closed =
+    below-five (Closed netJ 20 downJ)
+    (only-ungated refl (inr (70, largest-root, omega arith)) refl refl refl refl refl)
+    (only-ungated refl (inr (27, largest, omega arith)) refl refl refl refl refl)
+    (only-any 0
+    (leaf 2 (below-five (λ j. hangs netJ 2 j ≡ false) refl refl refl refl refl) (omega arith) refl)
+    (inl (omega arith))
+    refl
+    refl
+    refl
+    refl)
+    (both 0
+    (leaf 3 (below-five (λ j. hangs netJ 3 j ≡ false) refl refl refl refl refl) (omega arith) refl)
+    refl
+    refl
+    refl
+    refl
+    refl
+    refl
+    refl)
+    (both 0
+    (leaf 4 (below-five (λ j. hangs netJ 4 j ≡ false) refl refl refl refl refl) (omega arith) refl)
+    refl
+    refl
+    refl
+    refl
+    refl
+    refl
+    refl)
+
+climbed : (j : ℕ) → j < 5 → netJ .cuttable j ≡ true → Climbed netJ 20 downJ j
+climbed =
+    below-five (λ j. netJ .cuttable j ≡ true → Climbed netJ 20 downJ j)
+    (λ y. absurd (no-both y refl))
+    (λ y. without-gate refl refl refl refl refl refl)
+    (λ y. within-limit refl (omega arith) refl refl refl refl)
+    (λ y. without-gate refl refl refl refl refl refl)
+    (λ y. without-gate refl refl refl refl refl refl)
+
+chosen : (r : ℕ) → r < 5 → Chosen netJ 20 downJ upJ r
+chosen =
+    below-five (Chosen netJ 20 downJ upJ)
+    (record {
+      root-mode = λ n. refl;
+      root-high = λ n. refl;
+      branch-high = λ y. absurd (no-both y refl);
+      branch-mode = λ y. absurd (no-both y refl);
+    })
+    (record {
+      root-mode = λ n. absurd (no-both refl n);
+      root-high = λ n. refl;
+      branch-high = λ y. refl;
+      branch-mode = λ y. refl;
+    })
+    (record {
+      root-mode = λ n. refl;
+      root-high = λ n. absurd (no-both refl n);
+      branch-high = λ y. refl;
+      branch-mode = λ y. refl;
+    })
+    (record {
+      root-mode = λ n. absurd (no-both refl n);
+      root-high = λ n. refl;
+      branch-high = λ y. refl;
+      branch-mode = λ y. refl;
+    })
+    (record {
+      root-mode = λ n. absurd (no-both refl n);
+      root-high = λ n. refl;
+      branch-high = λ y. refl;
+      branch-mode = λ y. refl;
+    })
+
+run : Run netJ 20 downJ upJ
+run =
+    record {
+      counted = record { closed = λ r from p. closed r p; climbed = λ j from p y. climbed j p y; no-near = λ j from p n. refl };
+      chosen = chosen;
+    }
+
+-- one jumper, on wire 2, and the set is good
+pub one-jumper : pointCount netJ (chosenEffect netJ downJ upJ) ≡ 1
+unfolding total sum
+one-jumper = chosen-count netJ 20 downJ upJ sound run
+
+pub on-wire-2 : chosenEffect netJ downJ upJ .cut 2 ≡ true
+on-wire-2 = refl
+
+pub good : (p : Parts) × Good netJ 20 (chosenEffect netJ downJ upJ) p
+good = chosen-good netJ 20 downJ upJ sound run
