@@ -1,6 +1,6 @@
--- What holds of three sections that meet none of 4 to 11.
+-- What holds of a file whose head and pairs meet neither 2 nor 3, and of three sections that meet none of 4 to 11.
 -- Assumes nothing.
-use Prim.Native.Nat.{ℕ, _+_, _-_, _*_, _/_, _%_, _<_, _≤_}
+use Prim.Native.Nat.{ℕ, zero, suc, _+_, _-_, _*_, _/_, _%_, _<_, _≤_}
 use mathlib.Core.Path.{_≡_, refl, ap}
 use mathlib.Core.Bool.{Bool, true, false, not, _&&_, _||_}
 use mathlib.Core.List.{List}
@@ -10,11 +10,65 @@ use lib.ListN.{length}
 use lib.Dec.{leb, ltb, eqb}
 use borrow.Author.Tests.{ltb-true, ltb-false, leb-true, eqb-true, eqb-false, not-false, lt-ltb, le-leb}
 use Rattle.laws.specs.Sums.{and-left, and-right, or-no-left, or-no-right}
-use Rattle.net.specs.Layout.{nodeBytes, wireBytes, obstacleBytes, mostNodes, mostObstacles, mostLayers, mostFlags}
+use Rattle.net.specs.Layout.{headBytes, nodeBytes, wireBytes, obstacleBytes, mostNodes, mostObstacles, mostLayers, mostFlags}
 use Rattle.net.specs.Net.{nodeCount, nodeX, nodeY, nodeFlags, wireParent, wireLayer, wireFactor, obstacleCount, obstacleX1, obstacleY1, obstacleX2, obstacleY2}
+use Rattle.net.specs.File.{version, pairCount, offset, extent, pairsRight}
 use Rattle.net.specs.Stage.{stageOf, Formed}
-use Rattle.net.specs.Refusal.{none, met, orElse, refusedIf, firstOf, sectionsRefusal, nodeRefusal, wireRefusal, obstacleRefusal, netRefusal}
+use Rattle.net.specs.Refusal.{none, met, orElse, refusedIf, firstOf, headRefusal, pairsRefusal, sectionsRefusal, nodeRefusal, wireRefusal, obstacleRefusal, netRefusal}
 use Rattle.net.specs.First.{and-no, unmet-if, unmet-l, unmet-r, first-unmet}
+
+-- head and pairs
+pub record HeadRight (f : List ℕ) : Type 0 where
+  pub long : headBytes ≤ length f
+  pub version-right : version f ≡ 1
+  pub three-pairs : pairCount f ≡ 3
+  pub nodes-at : offset f 0 ≡ headBytes
+  pub wires-at : offset f 1 ≡ offset f 0 + extent f 0
+  pub obstacles-at : offset f 2 ≡ offset f 1 + extent f 1
+  pub end-at : length f ≡ offset f 2 + extent f 2
+
+module _ (f : List ℕ) where
+  pub head-long : met (headRefusal f) ≡ false → headBytes ≤ length f
+  unfolding headRefusal
+  head-long e =
+      let short = ltb (length f) headBytes in
+      let wrong = not (eqb (version f) 1) || not (eqb (pairCount f) 3) in
+      ltb-false _ _ (or-no-left short wrong (unmet-if (short || wrong) 2 0 refl e))
+
+  pub head-right-of : met (orElse (headRefusal f) (pairsRefusal f)) ≡ false → HeadRight f
+  unfolding headRefusal pairsRefusal pairsRight
+  head-right-of e =
+      let short = ltb (length f) headBytes in
+      let v = eqb (version f) 1 in
+      let p = eqb (pairCount f) 3 in
+      let a = eqb (offset f 0) headBytes in
+      let b = eqb (offset f 1) (offset f 0 + extent f 0) in
+      let c = eqb (offset f 2) (offset f 1 + extent f 1) in
+      let d = eqb (length f) (offset f 2 + extent f 2) in
+      let r2 = refusedIf (short || (not v || not p)) 2 0 in
+      let r3 = refusedIf (not (a && (b && (c && d)))) 3 0 in
+      let t2 : (short || (not v || not p)) ≡ false = unmet-if (short || (not v || not p)) 2 0 refl (unmet-l r2 r3 e) in
+      let vp : (not v || not p) ≡ false = or-no-right short (not v || not p) t2 in
+      let abcd : (a && (b && (c && d))) ≡ true =
+      not-false (a && (b && (c && d))) (unmet-if (not (a && (b && (c && d)))) 3 0 refl (unmet-r r2 r3 e)) in
+      let bcd : (b && (c && d)) ≡ true = and-right a (b && (c && d)) abcd in
+      let cd : (c && d) ≡ true = and-right b (c && d) bcd in
+      record {
+        long = ltb-false _ _ (or-no-left short (not v || not p) t2);
+        version-right = eqb-true _ _ (not-false v (or-no-left (not v) (not p) vp));
+        three-pairs = eqb-true _ _ (not-false p (or-no-right (not v) (not p) vp));
+        nodes-at = eqb-true _ _ (and-left a (b && (c && d)) abcd);
+        wires-at = eqb-true _ _ (and-left b (c && d) bcd);
+        obstacles-at = eqb-true _ _ (and-left c d cd);
+        end-at = eqb-true _ _ (and-right c d cd);
+      }
+
+  -- each section lies in the file
+  pub section-inside : HeadRight f → (k : ℕ) → k < 3 → offset f k + extent f k ≤ length f
+  section-inside r zero h = omega (arith, r .nodes-at, r .wires-at, r .obstacles-at, r .end-at)
+  section-inside r (suc zero) h = omega (arith, r .nodes-at, r .wires-at, r .obstacles-at, r .end-at)
+  section-inside r (suc (suc zero)) h = omega (arith, r .end-at)
+  section-inside r (suc (suc (suc k))) h = absurd (omega arith)
 
 -- lengths and counts
 pub record Sized (ns ws os : List ℕ) : Type 0 where
@@ -44,7 +98,7 @@ pub record NetRight (ns ws os : List ℕ) : Type 0 where
   pub wire : (i : ℕ) → 0 < i → i < nodeCount ns → WireRight ns ws i
   pub obstacle : (k : ℕ) → k < obstacleCount os → ObstacleRight os k
 
-sized-of : (ns ws os : List ℕ) → met (sectionsRefusal ns ws os) ≡ false → Sized ns ws os
+pub sized-of : (ns ws os : List ℕ) → met (sectionsRefusal ns ws os) ≡ false → Sized ns ws os
 unfolding sectionsRefusal
 sized-of ns ws os e =
     let a = eqb (length ns % nodeBytes) 0 in

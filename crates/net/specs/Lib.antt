@@ -5,4 +5,5 @@ pub mod Stage
 pub mod Refusal
 pub mod File
 pub mod First
+pub mod Reading
 pub mod Accepted

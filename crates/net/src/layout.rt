@@ -27,3 +27,14 @@ pub const MOST_FLAGS: u8 = 3;
 pub const VERSION: u16 = 1;
 
 pub const PAIR_COUNT: u16 = 3;
+
+// Where the head has them: version, pair count, the pairs; a pair is an offset and, behind it, a length.
+pub const VERSION_AT: usize = 0;
+
+pub const PAIR_COUNT_AT: usize = 2;
+
+pub const PAIRS_AT: usize = 4;
+
+pub const PAIR_BYTES: usize = 8;
+
+pub const LENGTH_AT: usize = 4;

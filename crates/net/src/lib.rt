@@ -1,8 +1,11 @@
 // The net of document 01: its files read, refused, handed out in sections and written.
 // Definitions: specs/.
+pub mod answers;
 pub mod geometry;
 pub mod layout;
+pub mod read;
 pub mod records;
+pub mod sections;
 
 // What a call answers: number 0 is done; another is the refusal of document 01 with its place, and then count is 0.
 #[repr(C)]

@@ -1,0 +1,177 @@
+// The reader: the first refusal met in a net file, or in three sections.
+use crate::Answer;
+use crate::Refusal;
+use crate::answers::answered;
+use crate::answers::none;
+use crate::answers::refused;
+use crate::layout::MOST_FLAGS;
+use crate::layout::MOST_LAYERS;
+use crate::layout::MOST_NODES;
+use crate::layout::MOST_OBSTACLES;
+use crate::layout::NODE_BYTES;
+use crate::layout::OBSTACLE_BYTES;
+use crate::layout::WIRE_BYTES;
+use crate::records::node_count;
+use crate::records::node_flags;
+use crate::records::node_x;
+use crate::records::node_y;
+use crate::records::obstacle_count;
+use crate::records::obstacle_x1;
+use crate::records::obstacle_x2;
+use crate::records::obstacle_y1;
+use crate::records::obstacle_y2;
+use crate::records::wire_factor;
+use crate::records::wire_layer;
+use crate::records::wire_parent;
+use crate::sections;
+ghost use mathlib.Core.Path.{_≡_};
+ghost use Prim.Native.Nat.{_+_, _-_, _*_, _<_, _≤_};
+ghost use lib.ListN.{length};
+ghost use Rattle.net.specs.Layout.{wireBytes};
+ghost use Rattle.net.specs.Net.{nodeCount, obstacleCount};
+ghost use Rattle.net.specs.Refusal.{readAnswer, readRefusal, netRefusal, firstOf, sectionsRefusal, nodeRefusal, wireRefusal, obstacleRefusal};
+
+// Accepted with the count of its nodes, or the first of 2 to 11 that the file meets.
+pub fn read(file: &[u8]) -> Answer
+    ensures { λ r. ⌜ r ≡ readAnswer (now (file .entry)) ⌝ }
+{
+    answered(read_refusal(file), node_count(sections::nodes(file)) as u64)
+}
+
+// 2 to 11 on a file.
+pub fn read_refusal(file: &[u8]) -> Refusal
+    ensures { λ r. ⌜ r ≡ readRefusal (now (file .entry)) ⌝ }
+{
+    let r = sections::head_and_pairs_refusal(file);
+    if r.number != 0 {
+        return r;
+    }
+    net_refusal(
+        sections::stretch(file, 0),
+        sections::stretch(file, 1),
+        sections::stretch(file, 2),
+    )
+}
+
+// 4 to 11 on three sections.
+pub fn net_refusal(nodes: &[u8], wires: &[u8], obstacles: &[u8]) -> Refusal
+    ensures { λ r. ⌜ r ≡ netRefusal (now (nodes .entry)) (now (wires .entry)) (now (obstacles .entry)) ⌝ }
+{
+    let of_sections = sections_refusal(nodes, wires, obstacles);
+    if of_sections.number != 0 {
+        return of_sections;
+    }
+    let of_nodes = nodes_refusal(nodes);
+    if of_nodes.number != 0 {
+        return of_nodes;
+    }
+    let of_wires = wires_refusal(nodes, wires);
+    if of_wires.number != 0 {
+        return of_wires;
+    }
+    obstacles_refusal(obstacles)
+}
+
+// Sections: 4, 5, 6.
+fn sections_refusal(nodes: &[u8], wires: &[u8], obstacles: &[u8]) -> Refusal
+    ensures { λ r. ⌜ r ≡ sectionsRefusal (now (nodes .entry)) (now (wires .entry)) (now (obstacles .entry)) ⌝ }
+{
+    let count = node_count(nodes);
+    if nodes.len() % NODE_BYTES != 0 {
+        return refused(4, 0);
+    }
+    if count == 0 {
+        return refused(4, 0);
+    }
+    if MOST_NODES < count {
+        return refused(4, 0);
+    }
+    if wires.len() != WIRE_BYTES * (count - 1) {
+        return refused(5, 0);
+    }
+    if obstacles.len() % OBSTACLE_BYTES != 0 {
+        return refused(6, 0);
+    }
+    if MOST_OBSTACLES < obstacle_count(obstacles) {
+        return refused(6, 0);
+    }
+    none()
+}
+
+// Each node: 7.
+fn nodes_refusal(nodes: &[u8]) -> Refusal
+    ensures { λ r. ⌜ r ≡ firstOf (nodeCount (now (nodes .entry))) (λ i. nodeRefusal (now (nodes .entry)) i) ⌝ }
+{
+    let count = node_count(nodes);
+    let mut i = 0;
+    while i < count {
+        if MOST_FLAGS < node_flags(nodes, i) {
+            return refused(7, i as u64);
+        }
+        i += 1;
+    }
+    none()
+}
+
+// Wire i: 8, 9, 10.
+fn wire_refusal(nodes: &[u8], wires: &[u8], i: usize) -> Refusal
+    requires { ⌜ (0 < i) × (i < nodeCount (now nodes)) × (wireBytes * i ≤ length (now wires)) ⌝ }
+    ensures { λ r. ⌜ r ≡ wireRefusal (now (nodes .entry)) (now (wires .entry)) i ⌝ }
+{
+    let parent = wire_parent(wires, i);
+    if i <= parent {
+        return refused(8, i as u64);
+    }
+    let layer = wire_layer(wires, i);
+    if layer == 0 {
+        return refused(9, i as u64);
+    }
+    if MOST_LAYERS < layer {
+        return refused(9, i as u64);
+    }
+    if wire_factor(wires, i) == 0 {
+        return refused(9, i as u64);
+    }
+    if node_x(nodes, i) == node_x(nodes, parent) {
+        return none();
+    }
+    if node_y(nodes, i) == node_y(nodes, parent) {
+        return none();
+    }
+    refused(10, i as u64)
+}
+
+// Each wire, from wire 1 on.
+fn wires_refusal(nodes: &[u8], wires: &[u8]) -> Refusal
+    requires { ⌜ length (now wires) ≡ wireBytes * (nodeCount (now nodes) - 1) ⌝ }
+    ensures { λ r. ⌜ r ≡ firstOf (nodeCount (now (nodes .entry)) - 1) (λ i. wireRefusal (now (nodes .entry)) (now (wires .entry)) (i + 1)) ⌝ }
+{
+    let count = node_count(nodes);
+    let mut i = 1;
+    while i < count {
+        let r = wire_refusal(nodes, wires, i);
+        if r.number != 0 {
+            return r;
+        }
+        i += 1;
+    }
+    none()
+}
+
+// Each obstacle: 11.
+fn obstacles_refusal(obstacles: &[u8]) -> Refusal
+    ensures { λ r. ⌜ r ≡ firstOf (obstacleCount (now (obstacles .entry))) (λ k. obstacleRefusal (now (obstacles .entry)) k) ⌝ }
+{
+    let count = obstacle_count(obstacles);
+    let mut k = 0;
+    while k < count {
+        if obstacle_x2(obstacles, k) < obstacle_x1(obstacles, k) {
+            return refused(11, k as u64);
+        }
+        if obstacle_y2(obstacles, k) < obstacle_y1(obstacles, k) {
+            return refused(11, k as u64);
+        }
+        k += 1;
+    }
+    none()
+}
