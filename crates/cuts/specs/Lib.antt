@@ -16,3 +16,4 @@ pub mod LowerCount
 pub mod LowerClosing
 pub mod BridgeWeight
 pub mod BridgeGood
+pub mod BridgeLegal
