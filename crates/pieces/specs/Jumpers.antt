@@ -1,15 +1,15 @@
 -- Laws of a wire's first and last jumper, and the three places that a step can have to them.
 -- Assumes nothing.
-use Prim.Native.Nat.{ℕ, zero, suc, _+_, _≤_, _<_}
-use mathlib.Core.Path.{_≡_, refl, sym, _∙_, ap}
-use mathlib.Core.Bool.{Bool, true, false, not, _&&_, cond}
+use Prim.Native.Nat.{ℕ, _≤_, _<_}
+use mathlib.Core.Path.{_≡_}
+use mathlib.Core.Bool.{true, false}
 use native.Mathlib.Omega.{arith}
-use lib.Dec.{leb, ltb, eqb}
+use lib.Dec.{leb, ltb}
 use borrow.Author.Tests.{ltb-true, ltb-false, leb-true, leb-false, lt-ltb, le-ltb, le-leb, lt-leb}
-use Rattle.laws.specs.Sum.{any, lowest, highest}
-use Rattle.laws.specs.Sums.{by, no-both, not-true-false, any-yes, any-no, lowest-passes, lowest-least, lowest-none, lowest-≤, highest-passes, highest-most, highest-none}
+use Rattle.laws.specs.Sum.{highest}
+use Rattle.laws.specs.Sums.{by, no-both, not-true-false, any-yes, lowest-passes, lowest-least, lowest-none, lowest-≤, highest-passes, highest-most, highest-none}
 use Rattle.net.specs.Stage.{Stage}
-use Rattle.pieces.specs.Piece.{Points, node, step}
+use Rattle.pieces.specs.Piece.{Points}
 use Rattle.pieces.specs.Name.{Inside, cutAt, firstJumper, lastJumper, lowestNode, stepNumber, stepPosition}
 
 module _ (s : Stage) (J : Points) (inside : Inside s J) where

@@ -1,14 +1,14 @@
 -- A jumper set is legal exactly when every piece with nodes that has a gate and no source weighs at most the limit: a piece without nodes has no gate.
 -- Assumes nothing.
-use Prim.Native.Nat.{ℕ, suc, _+_, _≤_, _<_}
-use mathlib.Core.Path.{_≡_, refl, sym, _∙_, ap}
-use mathlib.Core.Bool.{Bool, true, false}
+use Prim.Native.Nat.{ℕ, _≤_, _<_}
+use mathlib.Core.Path.{_≡_, refl, _∙_}
+use mathlib.Core.Bool.{true}
 use native.Mathlib.Omega.{arith}
 use lib.Dec.{ltb}
 use borrow.Author.Tests.{ltb-true, ltb-false}
 use Rattle.laws.specs.Sums.{by}
 use Rattle.net.specs.Stage.{Stage, Formed}
-use Rattle.pieces.specs.Piece.{Points, Element, node, step, Real, a-node, Group, Piece, weightOf, HasGate, NoSource, Harmful}
+use Rattle.pieces.specs.Piece.{Points, node, a-node, Group, Piece, Harmful}
 use Rattle.pieces.specs.Legal.{Free, Legal}
 use Rattle.pieces.specs.Name.{Inside, lowestNode, named}
 use Rattle.pieces.specs.Weight.{nodeWeight}

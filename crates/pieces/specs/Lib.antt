@@ -10,5 +10,6 @@ pub mod Weights
 pub mod LegalByNodes
 pub mod Report
 pub mod Listed
+pub mod Reports
 pub mod Weight
 pub mod Size

@@ -1,28 +1,28 @@
 -- The list of names has the name of every piece and no other, in strictly rising order, and as many as document 01 says; the weights add up.
 -- Assumes nothing.
-use Prim.Native.Nat.{ℕ, zero, suc, _+_, _*_, _≤_, _<_}
+use Prim.Native.Nat.{ℕ, suc, _+_, _*_, _≤_, _<_}
 use mathlib.Core.Path.{_≡_, refl, sym, _∙_, ap, subst}
-use mathlib.Core.Bool.{Bool, true, false, not, _&&_, cond}
-use mathlib.Core.Logic.{_⊎_, inl, inr, ⊎-elim}
-use mathlib.Core.List.{List, [], _∷_, _++_, List·Memᴰ, List·Memᴰ·head, List·Memᴰ·tail, List·Memᴰ·not-nil, List·Memᴰ·append-cases, List·Memᴰ·cases-cons, Memᴰ·append-left, Memᴰ·append-right}
+use mathlib.Core.Bool.{true, false, _&&_}
+use mathlib.Core.Logic.{inl, inr, ⊎-elim}
+use mathlib.Core.List.{List, [], _∷_, _++_, List·Memᴰ, List·Memᴰ·not-nil, List·Memᴰ·append-cases, List·Memᴰ·cases-cons, Memᴰ·append-left, Memᴰ·append-right}
 use native.Mathlib.Omega.{arith}
-use lib.Dec.{leb, ltb, eqb}
+use lib.Dec.{ltb, eqb}
 use lib.ListN.{length, length-append}
-use borrow.Author.Tests.{ltb-true, ltb-false, lt-ltb, le-ltb, eq-eqb, ne-eqb, eqb-true, eqb-false}
+use borrow.Author.Tests.{ltb-true, lt-ltb, le-ltb, eq-eqb, ne-eqb, eqb-true, eqb-false}
 use Rattle.laws.specs.Sum.{χ, sum, highest}
 use Rattle.laws.specs.Sums.{by, no-both, not-true-false, and-left, and-right, and-intro, and-no-left, and-no-right, χ-yes, χ-no, χ-ap, χ-and, sum-ap, sum-+, sum-zero, sum-const, sum-χ, sum-pick, highest-last}
-use Rattle.laws.specs.Gather.{only, gather, total, Sorted, empty, front}
+use Rattle.laws.specs.Gather.{only, total, Sorted, empty, front}
 use Rattle.laws.specs.Gathers.{length-only, mem-only, only-mem, length-gather, mem-gather, gather-mem, sorted-only, sorted-append, sorted-gather, total-ap, total-zero, total-χ, total-sum}
 use Rattle.net.specs.Stage.{Stage, Formed}
 use Rattle.pieces.specs.Piece.{Points, Element, node, step, Real, a-node, a-step, Group, Piece, weightOf}
 use Rattle.pieces.specs.Legal.{size}
-use Rattle.pieces.specs.Name.{Inside, cutAt, firstJumper, lastJumper, joins, lowestNode, stepNumber, stepPosition, numberOf, positionOf, named}
+use Rattle.pieces.specs.Name.{Inside, cutAt, firstJumper, lastJumper, joins, lowestNode, numberOf, positionOf, named}
 use Rattle.pieces.specs.Lowest.{joins-yes, joins-below, cut-apart, absent-apart, lowestNode-up, lowestNode-stop, lowestNode-≤, lowestNode-inside, lowestNode-again}
 use Rattle.pieces.specs.Jumpers.{jumper-cuts, uncut-none, first-last, first-least, last-jumper, last-most, step-cases, number-low, number-high, number-mid, position-low, position-high, position-mid, below-mid}
-use Rattle.pieces.specs.Named.{real-is, named-piece}
+use Rattle.pieces.specs.Named.{real-is, named-piece, piece-named}
 use Rattle.pieces.specs.Report.{Name, name, groupOf, Before, nodeNames, stretchNames, pieceNames}
 
--- a name stands once in a rising list
+-- a name that stands before another differs from it
 differ : (m n : Name) → Before m n → (eqb (m .number) (n .number) && eqb (m .position) (n .position)) ≡ false
 differ m n b =
     ⊎-elim
@@ -37,6 +37,7 @@ differ′ m n b =
     (λ p. and-no-right (eqb (n .number) (m .number)) (ne-eqb (n .position) (m .position) (λ e. omega arith)))
     b
 
+-- a name stands once in a rising list
 once : (a b x : ℕ) (l : List Name) → Sorted Before l → List·Memᴰ (name a b) l → total (λ n. χ (eqb a (n .number) && eqb b (n .position)) x) l ≡ x
 unfolding total
 once a b x [] empty m = absurd (List·Memᴰ·not-nil m)
@@ -135,6 +136,12 @@ module _ (s : Stage) (J : Points) (formed : Formed s) (inside : Inside s J) wher
   listed-piece n m =
       let r = listed-element n m in
       subst (λ (x : Name). Piece s J (groupOf s J x)) (r .2) (named-piece s J formed inside (r .0) (r .1))
+
+  -- every piece is the elements of a name in the list
+  pub piece-listed : (P : Group) → Piece s J P → (n : Name) × List·Memᴰ n (pieceNames s J) × ((e : Element) → P e ≡ groupOf s J n e)
+  piece-listed P piece =
+      let d = piece .one in
+      (name (numberOf s J d) (positionOf s J d), name-listed d (piece .real d (piece .has-one)), piece-named s J formed inside P piece d (piece .has-one))
 
   wire-rise : (i : ℕ) → Sorted Before (nodeNames s J i ++ stretchNames s J i)
   unfolding nodeNames stretchNames

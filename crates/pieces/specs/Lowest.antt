@@ -1,11 +1,11 @@
 -- Laws of the lowest node of a node's piece: following joining wires to their parents ends there.
 -- Assumes nothing.
-use Prim.Native.Nat.{ℕ, zero, suc, _+_, _≤_, _<_}
-use mathlib.Core.Path.{_≡_, refl, sym, _∙_, ap}
-use mathlib.Core.Bool.{Bool, true, false, not, _&&_, cond}
+use Prim.Native.Nat.{ℕ, zero, suc, _≤_, _<_}
+use mathlib.Core.Path.{_≡_, refl, _∙_, ap}
+use mathlib.Core.Bool.{true, false, not, cond}
 use native.Mathlib.Omega.{arith}
 use borrow.Author.Tests.{not-true}
-use Rattle.laws.specs.Sums.{by, no-both, and-left, and-right, and-intro, and-no-left, and-no-right}
+use Rattle.laws.specs.Sums.{by, and-left, and-right, and-intro, and-no-left, and-no-right}
 use Rattle.net.specs.Stage.{Stage, Formed}
 use Rattle.pieces.specs.Piece.{Points}
 use Rattle.pieces.specs.Name.{cutAt, joins, follow, lowestNode}

@@ -1,19 +1,18 @@
 -- Two elements have one name exactly when they are connected.
 -- Assumes nothing.
-use Prim.Native.Nat.{ℕ, zero, suc, _+_, _≤_, _<_}
-use mathlib.Core.Path.{_≡_, refl, sym, _∙_, ap, subst}
-use mathlib.Core.Bool.{Bool, true, false, not, _&&_, cond}
-use mathlib.Core.Logic.{_⊎_, inl, inr, ⊎-elim}
+use Prim.Native.Nat.{ℕ, zero, suc, _≤_, _<_}
+use mathlib.Core.Path.{_≡_, refl, sym, _∙_}
+use mathlib.Core.Bool.{true, false, cond}
 use native.Mathlib.Omega.{arith}
-use lib.Dec.{leb, ltb, eqb}
-use borrow.Author.Tests.{eq-eqb, ne-eqb, eqb-true, eqb-false}
-use Rattle.laws.specs.Sum.{any, lowest, highest}
-use Rattle.laws.specs.Sums.{by, no-both, last-or-below, any-none, highest-most}
+use lib.Dec.{eqb}
+use borrow.Author.Tests.{ne-eqb, eqb-true, eqb-false}
+use Rattle.laws.specs.Sum.{any, highest}
+use Rattle.laws.specs.Sums.{by, no-both, highest-most}
 use Rattle.net.specs.Stage.{Stage, Formed}
-use Rattle.pieces.specs.Piece.{Points, Element, node, step, Real, a-node, a-step, Touch, along, foot, head, via, Connected, touching, same, back, chain}
-use Rattle.pieces.specs.Name.{Inside, cutAt, firstJumper, lastJumper, joins, lowestNode, stepNumber, stepPosition, numberOf, positionOf}
-use Rattle.pieces.specs.Lowest.{joins-yes, joins-present, joins-uncut, lowestNode-up, lowestNode-stop, lowestNode-≤, joins-below}
-use Rattle.pieces.specs.Jumpers.{uncut-none, first-uncut, first-jumper, last-jumper, below-first, above-last, first-≤, first-last, above-first-cut, step-cases, number-low, position-low, number-high, position-high, number-mid, position-mid, below-mid}
+use Rattle.pieces.specs.Piece.{Points, Element, node, step, Real, a-step, Touch, along, foot, head, via, Connected, touching, same, back, chain}
+use Rattle.pieces.specs.Name.{Inside, cutAt, firstJumper, lastJumper, joins, lowestNode, numberOf, positionOf}
+use Rattle.pieces.specs.Lowest.{joins-yes, joins-present, joins-uncut, lowestNode-up, lowestNode-stop, joins-below}
+use Rattle.pieces.specs.Jumpers.{first-uncut, first-jumper, last-jumper, below-first, above-last, first-≤, first-last, above-first-cut, step-cases, number-low, position-low, number-high, position-high, number-mid, position-mid, below-mid}
 
 -- two elements have one name
 abbrev pub SameName : Stage → Points → Element → Element → Type 0

@@ -1,8 +1,8 @@
 -- Document 01, "Files": the names of all pieces in order, the record of each, and the report.
 -- That these are the names of the pieces, each once, in rising order, is a theorem. Assumes nothing.
-use Prim.Native.Nat.{ℕ, suc, _+_, _*_, _^_, _<_}
+use Prim.Native.Nat.{ℕ, suc, _+_, _^_, _<_}
 use mathlib.Core.Path.{_≡_}
-use mathlib.Core.Bool.{Bool, true, false, not, _&&_, cond}
+use mathlib.Core.Bool.{Bool, not, _&&_}
 use mathlib.Core.Logic.{_⊎_}
 use mathlib.Core.List.{List, [], _∷_, _++_, flatMap}
 use lib.Dec.{ltb, eqb}

@@ -1,7 +1,7 @@
 -- The weight of a piece with nodes, wire by wire. That it is the weight of its steps is a theorem.
 -- Assumes nothing.
 use Prim.Native.Nat.{ℕ, _+_, _-_, _*_}
-use mathlib.Core.Bool.{Bool, _&&_}
+use mathlib.Core.Bool.{_&&_}
 use lib.Dec.{eqb}
 use Rattle.laws.specs.Sum.{χ, sum}
 use Rattle.net.specs.Stage.{Stage}

@@ -1,19 +1,19 @@
 -- The weight of a piece, wire by wire: of a piece with nodes, and of a stretch between two jumpers.
 -- Assumes nothing.
-use Prim.Native.Nat.{ℕ, zero, suc, _+_, _-_, _*_, _≤_, _<_}
+use Prim.Native.Nat.{ℕ, suc, _+_, _-_, _*_, _≤_, _<_}
 use mathlib.Core.Path.{_≡_, refl, sym, _∙_, ap}
-use mathlib.Core.Bool.{Bool, true, false, not, _&&_, cond}
+use mathlib.Core.Bool.{Bool, true, false, _&&_}
 use native.Mathlib.Omega.{arith}
 use native.Mathlib.Nat.{mul-zero, sub-zero}
 use lib.Dec.{leb, ltb, eqb}
-use borrow.Author.Tests.{ltb-true, ltb-false, leb-true, leb-false, lt-ltb, le-ltb, le-leb, lt-leb, eq-eqb, ne-eqb}
+use borrow.Author.Tests.{leb-true, lt-ltb, le-ltb, le-leb, lt-leb, ne-eqb}
 use Rattle.laws.specs.Sum.{χ, sum, any, highest}
-use Rattle.laws.specs.Sums.{by, no-both, not-true-false, and-left, and-right, and-intro, and-no-left, and-no-right, χ-yes, χ-no, χ-ap, χ-and, χ-zero, sum-ap, sum-+, sum-zero, sum-one, sum-stretch, highest-passes, highest-none, highest-≥, highest-last}
+use Rattle.laws.specs.Sums.{by, not-true-false, and-left, and-right, and-intro, and-no-left, and-no-right, χ-yes, χ-no, χ-ap, χ-zero, sum-ap, sum-+, sum-zero, sum-one, sum-stretch, highest-passes, highest-none, highest-≥, highest-last}
 use Rattle.net.specs.Stage.{Stage, Formed}
-use Rattle.pieces.specs.Piece.{Points, Element, node, step, Real, a-node, a-step, Group, weightOf}
-use Rattle.pieces.specs.Name.{Inside, cutAt, firstJumper, lastJumper, lowestNode, stepNumber, stepPosition, isReal, named}
+use Rattle.pieces.specs.Piece.{Points, Element, step, Real, a-step, Group, weightOf}
+use Rattle.pieces.specs.Name.{Inside, cutAt, firstJumper, lastJumper, lowestNode, stepNumber, stepPosition, named}
 use Rattle.pieces.specs.Weight.{wireAdds, nodeWeight}
-use Rattle.pieces.specs.Jumpers.{first-uncut, first-≤, first-last, first-least, last-most, above-first-cut, step-cases, number-low, number-high, number-mid, position-low, position-high, position-mid, below-mid}
+use Rattle.pieces.specs.Jumpers.{first-≤, first-last, first-least, last-most, above-first-cut, step-cases, number-low, number-high, number-mid, position-low, position-high, position-mid, below-mid}
 use Rattle.pieces.specs.Named.{real-is, named-yes, named-stretch}
 
 -- groups with the same elements weigh the same
