@@ -1,4 +1,4 @@
--- A run of both passes on net J of document 01 at limit 20: what the theorems assume can be met.
+-- Runs of both passes on nets J and A of document 01, at limits 20 and 1: what the theorems assume can be met.
 -- Assumes nothing.
 use Prim.Native.Nat.{ℕ, zero, suc, _≤_, _<_}
 use mathlib.Core.Path.{_≡_, refl}
@@ -9,13 +9,14 @@ use native.Mathlib.Omega.{arith}
 use native.Mathlib.Nat.{lt-irrefl}
 use lib.ListN.{getD}
 use lib.Dec.{leb, ltb, eqb}
-use borrow.Author.Tests.{leb-true}
+use borrow.Author.Tests.{leb-true, ltb-true}
 use Rattle.laws.specs.Sum.{sum}
 use Rattle.laws.specs.Sums.{no-both, and-left, and-right}
-use Rattle.cuts.specs.Cluster.{Clusters, Sound, Parts, Good, hangs, pointCount}
-use Rattle.cuts.specs.Passes.{Down, Up, Closed, Climbed, Chosen, Run, Largest, chosenEffect, total, anyLeft, anyCuts, only-any, both, only-ungated, without-gate, within-limit}
+use Rattle.cuts.specs.Cluster.{Clusters, Sound, Effect, Parts, Good, hangs, pointCount}
+use Rattle.cuts.specs.Passes.{Down, Up, Closed, Climbed, Chosen, Run, Largest, chosenEffect, total, anyLeft, anyCuts, only-any, both, only-ungated, without-gate, within-limit, with-jumper}
 use Rattle.cuts.specs.ChosenGood.{chosen-good}
 use Rattle.cuts.specs.ChosenCount.{chosen-count}
+use Rattle.cuts.specs.LowerCount.{fewest-points}
 
 -- four wires of length 10 with no obstacle: node 1 on node 0, the others on node 1
 abbrev pub netJ : Clusters
@@ -214,7 +215,7 @@ run =
       chosen = chosen;
     }
 
--- one jumper, on wire 2, and the set is good
+-- one jumper, on wire 2; no good set has fewer
 pub one-jumper : pointCount netJ (chosenEffect netJ downJ upJ) ≡ 1
 unfolding total sum
 one-jumper = chosen-count netJ 20 downJ upJ sound run
@@ -222,5 +223,135 @@ one-jumper = chosen-count netJ 20 downJ upJ sound run
 pub on-wire-2 : chosenEffect netJ downJ upJ .cut 2 ≡ true
 on-wire-2 = refl
 
+pub no-fewer : (e : Effect) (p : Parts) → Good netJ 20 e p → 1 ≤ pointCount netJ e
+unfolding total sum
+no-fewer e p g = fewest-points netJ 20 downJ e p sound (run .counted) g
+
 pub good : (p : Parts) × Good netJ 20 (chosenEffect netJ downJ upJ) p
 good = chosen-good netJ 20 downJ upJ sound run
+
+-- ---- net A: a wire of length 13 between two gates
+abbrev pub netA : Clusters
+netA =
+    record {
+      nodes = 2;
+      cuttable = λ j. ltb 0 j;
+      lo = λ j. 1;
+      hi = λ j. 12;
+      free = λ j t. leb 1 t && leb t 12;
+      factor = λ j. 1;
+      host = λ j. 0;
+      fixed = λ r. 1;
+      gates = λ r. 1;
+    }
+
+abbrev pub downA : Down
+downA =
+    record {
+      cutAny = λ j. ltb 0 j;
+      fewest = λ r. getD (2 ∷ 0 ∷ []) r 0;
+      anyOk = λ r. true;
+      anyWeight = λ r. 1;
+      ungatedOk = λ r. false;
+      ungatedWeight = λ r. 0;
+      count = λ j. 1;
+      lightest = λ j. 11;
+      hasUngated = λ j. true;
+      ungated = λ j. 11;
+      near = λ j. getD (0 ∷ 1 ∷ []) j 0;
+    }
+
+abbrev pub upA : Up
+upA = record { anyMode = λ r. true; cutHigh = λ j. ltb 0 j }
+
+below-two : (P : ℕ → Type 0) → P 0 → P 1 → (i : ℕ) → i < 2 → P i
+below-two P a b zero p = a
+below-two P a b (suc zero) p = b
+below-two P a b (suc (suc i)) p = absurd (lt-irrefl 0 (omega arith))
+
+soundA : Sound netA
+soundA =
+    record {
+      host-below = λ j p y. ltb-true 0 j y;
+      positive = λ j p y. omega arith;
+      lo-free = λ j p y. refl;
+      hi-free = λ j p y. refl;
+      lo-least = λ j t p y f. leb-true 1 t (and-left (leb 1 t) (leb t 12) f);
+      hi-most = λ j t p y f. leb-true t 12 (and-right (leb 1 t) (leb t 12) f);
+    }
+
+closedA : (r : ℕ) → r < 2 → Closed netA 1 downA r
+unfolding sum
+closedA =
+    below-two (Closed netA 1 downA)
+    (only-any 11
+    (record {
+      cut-heavy = λ j p h k. omega arith;
+      kept-light = λ j p h k. omega arith;
+      fits = omega arith;
+      no-fewer = λ p. omega arith;
+    })
+    (inl (omega arith))
+    refl
+    refl
+    refl
+    refl)
+    (only-any 11
+    (record {
+      cut-heavy = λ j p h k. omega arith;
+      kept-light = λ j p h k. omega arith;
+      fits = omega arith;
+      no-fewer = λ p. absurd (lt-irrefl 0 p);
+    })
+    (inl (omega arith))
+    refl
+    refl
+    refl
+    refl)
+
+runA : Run netA 1 downA upA
+runA =
+    record {
+      counted = record {
+        closed = λ r from p. closedA r p;
+        climbed = λ j from p y.
+            below-two (λ j. netA .cuttable j ≡ true → Climbed netA 1 downA j)
+            (λ y. absurd (no-both y refl))
+            (λ y. with-jumper refl (omega arith) refl refl (omega arith) (λ t f b. omega arith) refl refl refl)
+            j
+            p
+            y;
+        no-near =
+            λ j from p n.
+            below-two (λ j. netA .cuttable j ≡ false → downA .near j ≡ 0) (λ n. refl) (λ n. absurd (no-both refl n)) j p n;
+      };
+      chosen =
+          below-two (Chosen netA 1 downA upA)
+          (record {
+            root-mode = λ n. refl;
+            root-high = λ n. refl;
+            branch-high = λ y. absurd (no-both y refl);
+            branch-mode = λ y. absurd (no-both y refl);
+          })
+          (record {
+            root-mode = λ n. refl;
+            root-high = λ n. absurd (no-both refl n);
+            branch-high = λ y. refl;
+            branch-mode = λ y. refl;
+          });
+    }
+
+-- two jumpers, at positions 1 and 12; no good set has fewer
+pub two-jumpers : pointCount netA (chosenEffect netA downA upA) ≡ 2
+unfolding total sum
+two-jumpers = chosen-count netA 1 downA upA soundA runA
+
+pub at-both-ends : (chosenEffect netA downA upA .first 1 ≡ 1) × (chosenEffect netA downA upA .last 1 ≡ 12)
+at-both-ends = (refl, refl)
+
+pub no-fewer-than-two : (e : Effect) (p : Parts) → Good netA 1 e p → 2 ≤ pointCount netA e
+unfolding total sum
+no-fewer-than-two e p g = fewest-points netA 1 downA e p soundA (runA .counted) g
+
+pub good-ends : (p : Parts) × Good netA 1 (chosenEffect netA downA upA) p
+good-ends = chosen-good netA 1 downA upA soundA runA
