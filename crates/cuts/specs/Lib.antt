@@ -17,3 +17,4 @@ pub mod LowerClosing
 pub mod BridgeWeight
 pub mod BridgeGood
 pub mod BridgeLegal
+pub mod BridgeRun
