@@ -1,1 +1,5 @@
 pub mod Arrays
+pub mod Count
+pub mod CountLaws
+pub mod CountCutting
+pub mod CountClosing

@@ -1,1 +1,2 @@
-// The code of repair: cuttable points, clusters, the pass that counts, the pass that chooses, the list.
+// The code of repair: cuttable points, clusters, the pass down, the pass up, the jumper list.
+mod count;

@@ -6,6 +6,7 @@ use mathlib.Core.Bool.{Bool, true, false, not, _&&_, _||_, cond, false≢true, t
 use mathlib.Core.Logic.{_⊎_, inl, inr, ⊎-elim, _≢_}
 use native.Mathlib.Omega.{arith}
 use native.Mathlib.Nat.{mul-add, mul-zero}
+use native.Mathlib.Numerals.{add-one}
 use lib.Dec.{eqb, ltb}
 use borrow.Author.Tests.{eq-eqb, ne-eqb, eqb-true, eqb-false, ltb-true, ltb-false}
 use Rattle.laws.specs.Sum.{χ, sum, any, lowest, highest}
@@ -288,6 +289,13 @@ sum-stretch (suc n) a b x f p q in-it low high =
     let rest = sum-stretch n a b x f p (omega arith) in-it (λ t y z. low t (omega arith) z) (λ t y z. high t (omega arith) z) in
     let last = high n (omega arith) (omega arith) in
     omega arith)
+-- one more term, as a loop adds it
+pub sum-next : (n : ℕ) (f : ℕ → ℕ) → sum (n + 1) f ≡ sum n f + f n
+unfolding sum
+sum-next n f = rw (add-one n)
+
+pub sum-next-≤ : (i n : ℕ) (f : ℕ → ℕ) → i < n → sum i f + f i ≤ sum n f
+sum-next-≤ i n f p = let a = sum-next i f in let b = sum-more (i + 1) n f (omega arith) in omega arith
 
 -- ---- any
 pub any-yes : (n i : ℕ) (f : ℕ → Bool) → i < n → f i ≡ true → any n f ≡ true

@@ -1,0 +1,239 @@
+// The pass down of repair: for each cluster and branch the fewest points below it, and the weight that they leave.
+ghost use mathlib.Core.Path.{_≡_};
+ghost use mathlib.Core.Bool.{Bool, true, false};
+ghost use Prim.Native.Nat.{ℕ, _+_, _<_, _≤_, _^_};
+ghost use lib.ListN.{length, getD};
+ghost use Rattle.jumpers.specs.Count.{hung, branchSum, flaggedSum, clearCount, heavierThan, Heaviest, Cutting, Lengths, Room, Closes};
+
+// How many branches an option cuts, and the weight of the others.
+struct Choice {
+    cuts: u64,
+    weight: u64,
+}
+
+// A branch and its weight.
+struct Found {
+    at: usize,
+    weight: u64,
+}
+
+// Branch j hangs on cluster r.
+fn hangs(lo: &[u64], host: &[usize], r: usize, j: usize) -> bool
+    requires { ⌜ (j < length (now lo)) × (j < length (now host)) ⌝ }
+    ensures { λ b. ⌜ b ≡ hung (now (lo .entry)) (now (host .entry)) r j ⌝ }
+{
+    0 < lo[j] && host[j] == r
+}
+
+// The sum of a value over the branches of cluster r.
+fn branch_sum(lo: &[u64], host: &[usize], values: &[u64], r: usize, n: usize) -> u64
+    requires { ⌜ (n ≤ length (now lo)) × (n ≤ length (now host)) × (n ≤ length (now values)) ⌝ }
+    requires { ⌜ branchSum n (now lo) (now host) r (now values) < 2 ^ 64 ⌝ }
+    ensures { λ s. ⌜ s ≡ branchSum n (now (lo .entry)) (now (host .entry)) r (now (values .entry)) ⌝ }
+{
+    let mut sum: u64 = 0;
+    let mut j: usize = 0;
+    while j < n {
+        if hangs(lo, host, r, j) {
+            sum += values[j];
+        }
+        j += 1;
+    }
+    sum
+}
+
+// The option that keeps the branches that can add no gate, and cuts the others.
+fn ungated_option(
+    lo: &[u64],
+    host: &[usize],
+    ungatable: &[bool],
+    ungated: &[u64],
+    r: usize,
+    n: usize,
+) -> Choice
+    requires { ⌜ (n ≤ length (now lo)) × (n ≤ length (now host)) × (n ≤ length (now ungatable)) × (n ≤ length (now ungated)) ⌝ }
+    requires { ⌜ flaggedSum n (now lo) (now host) r (now ungatable) (now ungated) < 2 ^ 64 ⌝ }
+    ensures { λ o. ⌜ (o .cuts ≡ clearCount n (now (lo .entry)) (now (host .entry)) r (now (ungatable .entry)))
+        × (o .weight ≡ flaggedSum n (now (lo .entry)) (now (host .entry)) r (now (ungatable .entry)) (now (ungated .entry)))
+        × (o .cuts ≤ n) ⌝ }
+{
+    let mut cuts: u64 = 0;
+    let mut weight: u64 = 0;
+    let mut j: usize = 0;
+    while j < n {
+        if hangs(lo, host, r, j) {
+            if ungatable[j] {
+                weight += ungated[j];
+            } else {
+                cuts += 1;
+            }
+        }
+        j += 1;
+    }
+    Choice { cuts, weight }
+}
+
+// Branch j of cluster r is not cut yet and heavier than weight.
+fn heavier(
+    lo: &[u64],
+    host: &[usize],
+    lightest: &[u64],
+    cut: &[bool],
+    r: usize,
+    weight: u64,
+    j: usize,
+) -> bool
+    requires { ⌜ (j < length (now lo)) × (j < length (now host)) × (j < length (now lightest)) × (j < length (now cut)) ⌝ }
+    ensures { λ b. ⌜ b ≡ heavierThan (now (lo .entry)) (now (host .entry)) (now (lightest .entry)) (now (cut .entry)) r weight j ⌝ }
+{
+    if hangs(lo, host, r, j) {
+        !cut[j] && weight < lightest[j]
+    } else {
+        false
+    }
+}
+
+// The heaviest branch of cluster r that is not cut yet, if one weighs more than 0.
+fn heaviest(lo: &[u64], host: &[usize], lightest: &[u64], cut: &[bool], r: usize, n: usize) -> Found
+    requires { ⌜ (n ≤ length (now lo)) × (n ≤ length (now host)) × (n ≤ length (now lightest)) × (n ≤ length (now cut)) ⌝ }
+    ensures { λ f. ⌜ Heaviest n (now (lo .entry)) (now (host .entry)) (now (lightest .entry)) (now (cut .entry)) r (f .at) (f .weight) ⌝ }
+{
+    let mut at: usize = 0;
+    let mut weight: u64 = 0;
+    let mut j: usize = 0;
+    while j < n {
+        if heavier(lo, host, lightest, cut, r, weight, j) {
+            at = j;
+            weight = lightest[j];
+        }
+        j += 1;
+    }
+    Found { at, weight }
+}
+
+// Cuts the heaviest branches of cluster r, one after another, until its weight is within the limit.
+fn cut_heaviest(
+    lo: &[u64],
+    host: &[usize],
+    lightest: &[u64],
+    cut: &mut [bool],
+    r: usize,
+    n: usize,
+    fixed: u64,
+    limit: u64,
+) -> Choice
+    requires { ⌜ (n ≤ length (now lo)) × (n ≤ length (now host)) × (n ≤ length (now lightest)) × (n ≤ length (now cut)) ⌝ }
+    requires { ⌜ (fixed ≤ limit) × (fixed + branchSum n (now lo) (now host) r (now lightest) < 2 ^ 64) ⌝ }
+    requires { ⌜ ((j : ℕ) → j < n → hung (now lo) (now host) r j ≡ true → getD (now cut) j false ≡ false) ⌝ }
+    ensures { λ o. ⌜ Cutting n (now (lo .entry)) (now (host .entry)) (now (lightest .entry)) (now (cut .entry)) (now (cut .exit)) r fixed limit (o .cuts) (o .weight)
+        × (o .weight ≤ limit) ⌝ }
+{
+    let mut left = fixed + branch_sum(lo, host, lightest, r, n);
+    let mut cuts: u64 = 0;
+    while limit < left {
+        let heavy = heaviest(lo, host, lightest, cut, r, n);
+        let at = heavy.at;
+        cut[at] = true;
+        left -= lightest[at];
+        cuts += 1;
+    }
+    Choice { cuts, weight: left }
+}
+
+// What closing a cluster finds: the fewest points below it; which options reach that number, and the weight that each leaves; or that no set is legal.
+struct Closing {
+    fewest: u64,
+    any: bool,
+    anyweight: u64,
+    ungated: bool,
+    ungatedweight: u64,
+    hopeless: bool,
+}
+
+// Closes cluster r, whose branches are all done.
+fn close(
+    lo: &[u64],
+    host: &[usize],
+    count: &[u64],
+    lightest: &[u64],
+    ungatable: &[bool],
+    ungated: &[u64],
+    cut: &mut [bool],
+    r: usize,
+    n: usize,
+    fixed: u64,
+    gates: u64,
+    limit: u64,
+) -> Closing
+    requires { ⌜ Lengths n (now lo) (now host) (now count) (now lightest) (now ungatable) (now ungated) (now cut) ⌝ }
+    requires { ⌜ Room n (now lo) (now host) (now count) (now lightest) (now ungatable) (now ungated) r fixed ⌝ }
+    requires { ⌜ ((j : ℕ) → j < n → hung (now lo) (now host) r j ≡ true → getD (now cut) j false ≡ false) ⌝ }
+    ensures { λ x. ⌜ Closes n (now (lo .entry)) (now (host .entry)) (now (count .entry)) (now (lightest .entry)) (now (ungatable .entry)) (now (ungated .entry)) (now (cut .entry)) (now (cut .exit)) r fixed gates limit
+        (x .fewest) (x .any) (x .anyweight) (x .ungated) (x .ungatedweight) (x .hopeless) ⌝ }
+{
+    let below = branch_sum(lo, host, count, r, n);
+    if limit < fixed {
+        if 0 < gates {
+            return Closing {
+                fewest: 0,
+                any: false,
+                anyweight: 0,
+                ungated: false,
+                ungatedweight: 0,
+                hopeless: true,
+            };
+        }
+        let o = ungated_option(lo, host, ungatable, ungated, r, n);
+        let weight = fixed + o.weight;
+        return Closing {
+            fewest: below + o.cuts,
+            any: false,
+            anyweight: weight,
+            ungated: true,
+            ungatedweight: weight,
+            hopeless: false,
+        };
+    }
+    let a = cut_heaviest(lo, host, lightest, cut, r, n, fixed, limit);
+    let fewest = below + a.cuts;
+    if 0 < gates {
+        return Closing {
+            fewest,
+            any: true,
+            anyweight: a.weight,
+            ungated: false,
+            ungatedweight: 0,
+            hopeless: false,
+        };
+    }
+    let o = ungated_option(lo, host, ungatable, ungated, r, n);
+    if a.cuts < o.cuts {
+        return Closing {
+            fewest,
+            any: true,
+            anyweight: a.weight,
+            ungated: false,
+            ungatedweight: 0,
+            hopeless: false,
+        };
+    }
+    let weight = fixed + o.weight;
+    if o.cuts < a.cuts {
+        return Closing {
+            fewest: below + o.cuts,
+            any: false,
+            anyweight: weight,
+            ungated: true,
+            ungatedweight: weight,
+            hopeless: false,
+        };
+    }
+    Closing {
+        fewest,
+        any: true,
+        anyweight: a.weight,
+        ungated: true,
+        ungatedweight: weight,
+        hopeless: false,
+    }
+}
