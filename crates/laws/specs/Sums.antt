@@ -289,6 +289,7 @@ sum-stretch (suc n) a b x f p q in-it low high =
     let rest = sum-stretch n a b x f p (omega arith) in-it (λ t y z. low t (omega arith) z) (λ t y z. high t (omega arith) z) in
     let last = high n (omega arith) (omega arith) in
     omega arith)
+
 -- one more term, as a loop adds it
 pub sum-next : (n : ℕ) (f : ℕ → ℕ) → sum (n + 1) f ≡ sum n f + f n
 unfolding sum
