@@ -3,6 +3,7 @@ pub mod Net
 pub mod Geometry
 pub mod Stage
 pub mod Refusal
+pub mod Call
 pub mod File
 pub mod First
 pub mod Reading

@@ -1,0 +1,81 @@
+-- What follows from repair's promise on an accepted net: 15 exactly when no set is legal; 16 exactly when a smallest legal set needs more bytes than lent,
+-- and then its place is that number of bytes; otherwise the count is that of a smallest legal set. The three exclude each other.
+-- Assumes nothing.
+use Prim.Native.Nat.{ℕ, _*_, _<_}
+use mathlib.Core.Path.{_≡_, refl, _∙_, ap}
+use mathlib.Core.Logic.{_↔_}
+use mathlib.Core.List.{List}
+use lib.ListN.{length}
+use native.Mathlib.Omega.{arith}
+use Rattle.net.specs.declared.Answer.{Answer}
+use Rattle.net.specs.Layout.{entryBytes}
+use Rattle.net.specs.Stage.{Stage}
+use Rattle.net.specs.Refusal.{answer, none, refusal}
+use Rattle.pieces.specs.Legal.{size, listed, Smallest, NoneLegal}
+use Rattle.pieces.specs.Size.{listed-size}
+use Rattle.antenna.specs.Repair.{Judged, no-legal-set, too-short, done}
+
+-- the count of a smallest list is the number of its points
+pub smallest-size : {s : Stage} {limit : ℕ} {list : List ℕ} {n : ℕ} → Smallest s limit list n → size s (listed list n) ≡ n
+smallest-size {s} {limit} {list} {n} m = let a = listed-size s list n in let b = m .fewest (listed list n) (m .legal) in omega arith
+
+-- two smallest lists are equally long
+pub same-count : {s : Stage} {limit : ℕ} {l k : List ℕ} {m n : ℕ} → Smallest s limit l m → Smallest s limit k n → m ≡ n
+same-count {s} {limit} {l} {k} {m} {n} a b =
+    let p = a .fewest (listed k n) (b .legal) in
+    let q = b .fewest (listed l m) (a .legal) in
+    let x = listed-size s k n in
+    let y = listed-size s l m in
+    omega arith
+
+module _ {s : Stage} {limit : ℕ} {out after : List ℕ} {r : Answer} where
+  -- 15 exactly when no set of any size is legal
+  pub fifteen : Judged s limit out after r → (r .number ≡ 15) ↔ NoneLegal s limit
+  fifteen (no-legal-set n e k) = (λ _. n, λ _. ap (λ (a : Answer). a .number) e ∙ unfold answer in refl)
+  fifteen (too-short list n m lt e k) =
+      (λ f. absurd (apart (unfold answer in ap (λ (a : Answer). a .number) e) f), λ f. absurd (f (listed list n) (m .legal)))
+    where
+      apart : r .number ≡ 16 → r .number ≡ 15 → ⊥
+      apart p q = omega arith
+  fifteen (done list n m le e k) =
+      (λ f. absurd (apart (unfold answer in ap (λ (a : Answer). a .number) e) f), λ f. absurd (f (listed list n) (m .legal)))
+    where
+      apart : r .number ≡ 0 → r .number ≡ 15 → ⊥
+      apart p q = omega arith
+
+  -- 16 exactly when a smallest legal set needs more bytes than lent
+  pub sixteen : Judged s limit out after r → (r .number ≡ 16) ↔ ((list : List ℕ) × (n : ℕ) × Smallest s limit list n × (length out < entryBytes * n))
+  sixteen (no-legal-set f e k) =
+      (λ p. absurd (apart (unfold answer in ap (λ (a : Answer). a .number) e) p), λ w. absurd (f (listed (w .0) (w .1)) (w .2 .legal)))
+    where
+      apart : r .number ≡ 15 → r .number ≡ 16 → ⊥
+      apart p q = omega arith
+  sixteen (too-short list n m lt e k) = (λ _. (list, n, m, lt), λ _. unfold answer in ap (λ (a : Answer). a .number) e)
+  sixteen (done list n m le e k) =
+      (λ p. absurd (apart (unfold answer in ap (λ (a : Answer). a .number) e) p), λ w. absurd (fits (same-count m (w .2)) (w .3)))
+    where
+      apart : r .number ≡ 0 → r .number ≡ 16 → ⊥
+      apart p q = omega arith
+
+      fits : {x : ℕ} → n ≡ x → length out < entryBytes * x → ⊥
+      fits p q = omega arith
+
+  -- its place is the number of bytes that any smallest legal set needs
+  pub sixteen-place : Judged s limit out after r → r .number ≡ 16 → (list : List ℕ) (n : ℕ) → Smallest s limit list n → r .place ≡ entryBytes * n
+  sixteen-place (no-legal-set f e k) p list n m = absurd (f (listed list n) (m .legal))
+  sixteen-place (too-short l x w lt e k) p list n m =
+      let q : r .place ≡ entryBytes * x = unfold answer in ap (λ (a : Answer). a .place) e in
+      q ∙ ap (λ (y : ℕ). entryBytes * y) (same-count w m)
+  sixteen-place (done l x w le e k) p list n m = absurd (apart (unfold answer in ap (λ (a : Answer). a .number) e) p)
+    where
+      apart : r .number ≡ 0 → r .number ≡ 16 → ⊥
+      apart a b = omega arith
+
+  -- otherwise the count is that of any smallest legal set, and its list stands at the start of the buffer
+  pub counted : Judged s limit out after r → r .number ≡ 0 → (list : List ℕ) (n : ℕ) → Smallest s limit list n → r .count ≡ n
+  counted (no-legal-set f e k) p list n m = absurd (f (listed list n) (m .legal))
+  counted (too-short l x w lt e k) p list n m = absurd (apart (unfold answer in ap (λ (a : Answer). a .number) e) p)
+    where
+      apart : r .number ≡ 16 → r .number ≡ 0 → ⊥
+      apart a b = omega arith
+  counted (done l x w le e k) p list n m = let q : r .count ≡ x = unfold answer in ap (λ (a : Answer). a .count) e in q ∙ same-count w m

@@ -1,0 +1,1 @@
+// The piece report: the jumper list checked, the pieces gathered wire by wire, their records written.
