@@ -11,7 +11,7 @@ use Rattle.laws.specs.Sums.{by, no-both, not-true-false, and-left, and-right, a
 use Rattle.laws.specs.Tree.{tree, tree-is, joinedTo, joined-rising}
 use Rattle.net.specs.Stage.{Stage, Formed}
 use Rattle.pieces.specs.Piece.{Points}
-use Rattle.pieces.specs.Legal.{Free, Legal, size}
+use Rattle.pieces.specs.Legal.{Legal, size}
 use Rattle.pieces.specs.Name.{cutAt, firstJumper, lastJumper, joins, lowestNode}
 use Rattle.pieces.specs.Lowest.{joins-present, cut-apart, absent-apart, lowestNode-up, lowestNode-stop}
 use Rattle.pieces.specs.LegalByNodes.{legal→nodes}

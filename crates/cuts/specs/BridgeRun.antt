@@ -8,7 +8,7 @@ use native.Mathlib.Omega.{arith}
 use lib.Dec.{eqb}
 use lib.ListN.{length}
 use borrow.Author.Tests.{eq-eqb, ne-eqb, eqb-true, not-true}
-use Rattle.laws.specs.Sum.{χ, sum}
+use Rattle.laws.specs.Sum.{χ}
 use Rattle.laws.specs.Sums.{by, no-both, not-true-false, and-left, and-right, χ-no, sum-zero, up}
 use Rattle.net.specs.Layout.{entryBytes}
 use Rattle.net.specs.Stage.{Stage, Formed}
