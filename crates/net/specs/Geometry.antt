@@ -2,28 +2,37 @@
 -- Assumes nothing.
 use Prim.Native.Nat.{ℕ, zero, suc, _+_, _-_, _*_, _^_, _<_, _≤_}
 use mathlib.Core.Path.{_≡_, refl, sym, _∙_, ap}
-use mathlib.Core.Logic.{_⊎_, ⊎-elim}
-use mathlib.Core.Bool.{Bool, true, false, cond}
+use mathlib.Core.Logic.{_⊎_, inl, inr, ⊎-elim}
+use mathlib.Core.Bool.{Bool, true, false, _&&_, cond}
+use mathlib.Core.List.{List}
 use native.Mathlib.Omega.{arith}
+use lib.ListN.{getD}
 use lib.IntN.{ℤ, pos, negsuc, negℤ, _+ℤ_, _-ℤ_, _*ℤ_, subℕ}
 use lib.Signed.{ltZ, mag}
-use lib.Dec.{ltb}
+use lib.Dec.{leb, ltb}
 use mir.Val.{SFits, toZ, ofZ}
 use mir.Facts.{toZ-ofZ}
 use mir.Syntax.{w32}
-use borrow.Author.Tests.{ltb-true, ltb-false, lt-ltb, le-ltb}
-use Rattle.laws.specs.Sums.{by}
-use Rattle.net.specs.Net.{distance, toward}
+use borrow.Author.Tests.{ltb-true, ltb-false, lt-ltb, le-ltb, leb-true, leb-false, le-leb}
+use Rattle.laws.specs.Sum.{any}
+use Rattle.laws.specs.Sums.{by, no-both, and-left, and-right, and-intro, any-yes, any-none}
+use Rattle.net.specs.Layout.{nodeBytes}
+use Rattle.net.specs.Net.{distance, toward, nodeX, nodeY, wireParent, wireLength, pointX, pointY, obstacleX1, obstacleY1, obstacleX2, obstacleY2, obstacleCount, holds, barred}
+use Rattle.net.specs.Cuttable.{Checked, Highest, Lowest, LastBelow, FirstAbove}
 
 -- the direction from one coordinate towards another
 abbrev pub heading : ℕ → ℕ → ℤ
 heading from to = cond (ltb from to) (pos 1) (cond (ltb to from) (negsuc 0) (pos 0))
 
+-- one of three numbers by a direction: falling, none or rising
+abbrev pub byDirection : ℤ → ℕ → ℕ → ℕ → ℕ
+byDirection (negsuc d) falling none rising = falling
+byDirection (pos zero) falling none rising = none
+byDirection (pos (suc d)) falling none rising = rising
+
 -- the coordinate t steps in a direction
 unfoldable pub stepped : ℕ → ℤ → ℕ → ℕ
-stepped from (pos zero) t = from
-stepped from (pos (suc d)) t = from + t
-stepped from (negsuc d) t = from - t
+stepped from d t = byDirection d (from - t) from (from + t)
 
 -- every coordinate up to t steps in a direction is a number of 16 bits
 pub data Reach (from : ℕ) : ℤ → ℕ → Type 0 where
@@ -126,3 +135,201 @@ reach-toward from to t hf ht h = ⊎-elim same apart
     apart l =
         by (ltb from to) (λ u. rw u (rising {t = t} (omega (arith, ltb-true from to u))))
         (λ u. by (ltb to from) (λ v. rw (u, v) (falling {t = t} hf (omega (arith, ltb-true to from v)))) (λ v. rw (u, v) (still hf h)))
+
+-- an obstacle's stretch of a wire on one axis, where it covers the coordinates low to high: the last position below it and the first above
+unfoldable pub lastBelow : ℕ → ℤ → ℕ → ℕ → ℕ
+lastBelow from d low high = byDirection d (from - high - 1) 0 (low - from - 1)
+
+unfoldable pub firstAbove : ℕ → ℤ → ℕ → ℕ → ℕ → ℕ
+firstAbove from d low high end = byDirection d (from - low + 1) end (high - from + 1)
+
+-- a coordinate between two, as a test
+abbrev pub between : ℕ → ℕ → ℕ → Bool
+between low high x = leb low x && leb x high
+
+within : (low high x : ℕ) → between low high x ≡ true → (low ≤ x) × (x ≤ high)
+within low high x h =
+    (leb-true low x (and-left (leb low x) (leb x high) h), leb-true x high (and-right (leb low x) (leb x high) h))
+
+is-between : (low high x : ℕ) → (low ≤ x) × (x ≤ high) → between low high x ≡ true
+is-between low high x h = and-intro (le-leb low x (h .0)) (le-leb x high (h .1))
+
+pub axis-below : (from : ℕ) (d : ℤ) (low high : ℕ) → LastBelow (λ t. between low high (stepped from d t)) (lastBelow from d low high)
+unfolding stepped lastBelow
+axis-below from (pos zero) low high t p h = (p, λ s l m. h)
+axis-below from (pos (suc d)) low high t p h =
+    let b = within low high (from + t) h in
+    (omega arith, λ s l m. is-between low high (from + s) (omega arith, omega arith))
+axis-below from (negsuc d) low high t p h =
+    let b = within low high (from - t) h in
+    (omega arith, λ s l m. is-between low high (from - s) (omega arith, omega arith))
+
+pub axis-above : {from end : ℕ} {d : ℤ} (low high : ℕ) → Reach from d end → FirstAbove (λ t. between low high (stepped from d t)) end (firstAbove from d low high end)
+unfolding stepped firstAbove
+axis-above low high (still f g) t p h = (p, λ s l m. h)
+axis-above {from} low high (rising f) t p h =
+    let b = within low high (from + t) h in
+    (omega arith, λ s l m. is-between low high (from + s) (omega arith, omega arith))
+axis-above {from} low high (falling f g) t p h =
+    let b = within low high (from - t) h in
+    (omega arith, λ s l m. is-between low high (from - s) (omega arith, omega arith))
+
+-- where two tests both pass: the later of two positions below, the earlier of two above
+pub both-below : {p q : ℕ → Bool} {a b r : ℕ} → LastBelow p a → LastBelow q b → a ≤ r → b ≤ r → (r ≡ a) ⊎ (r ≡ b) → LastBelow (λ t. p t && q t) r
+both-below {p} {q} {a} {b} {r} f g l m o t z h =
+    let x = f t z (and-left (p t) (q t) h) in
+    let y = g t z (and-right (p t) (q t) h) in
+    (⊎-elim {C = r < t} (λ e. omega arith) (λ e. omega arith) o, λ s u v. and-intro (x .1 s (omega arith) v) (y .1 s (omega arith) v))
+
+pub both-above : {p q : ℕ → Bool} {end a b r : ℕ} → FirstAbove p end a → FirstAbove q end b → r ≤ a → r ≤ b → (r ≡ a) ⊎ (r ≡ b) → FirstAbove (λ t. p t && q t) end r
+both-above {p} {q} {end} {a} {b} {r} f g l m o t z h =
+    let x = f t z (and-left (p t) (q t) h) in
+    let y = g t z (and-right (p t) (q t) h) in
+    (⊎-elim {C = t < r} (λ e. omega arith) (λ e. omega arith) o, λ s u v. and-intro (x .1 s u (omega arith)) (y .1 s u (omega arith)))
+
+-- the three cases by the tests of a direction that is read from its bits
+pub falls-read : {d : ℤ} (a b c : ℕ) → SFits w32 d → ltZ (toZ w32 (ofZ w32 d)) (pos 0) ≡ true → byDirection d a b c ≡ a
+falls-read {d} a b c f h = cases d (rw (toZ-ofZ f) at h)
+  where
+    cases : (d : ℤ) → ltZ d (pos 0) ≡ true → byDirection d a b c ≡ a
+    cases (pos n) g = let z = ltb-true n 0 g in omega arith
+    cases (negsuc n) g = refl
+
+pub rises-read : {d : ℤ} (a b c : ℕ) → SFits w32 d → ltZ (pos 0) (toZ w32 (ofZ w32 d)) ≡ true → byDirection d a b c ≡ c
+rises-read {d} a b c f h = cases d (rw (toZ-ofZ f) at h)
+  where
+    cases : (d : ℤ) → ltZ (pos 0) d ≡ true → byDirection d a b c ≡ c
+    cases (pos zero) g = let z = ltb-true 0 0 g in omega arith
+    cases (pos (suc n)) g = refl
+    cases (negsuc n) g = absurd (no-both g refl)
+
+pub still-read : {d : ℤ} (a b c : ℕ) → SFits w32 d → ltZ (toZ w32 (ofZ w32 d)) (pos 0) ≡ false → ltZ (pos 0) (toZ w32 (ofZ w32 d)) ≡ false → byDirection d a b c ≡ b
+still-read {d} a b c f h g = cases d (rw (toZ-ofZ f) at h) (rw (toZ-ofZ f) at g)
+  where
+    cases : (d : ℤ) → ltZ d (pos 0) ≡ false → ltZ (pos 0) d ≡ false → byDirection d a b c ≡ b
+    cases (pos zero) u v = refl
+    cases (pos (suc n)) u v = let z = ltb-false 0 (suc n) v in omega arith
+    cases (negsuc n) u v = absurd (no-both refl u)
+
+-- an accepted wire: its length, and the points up to it
+module _ (nodes wires : List ℕ) (i : ℕ) (bytes : (k : ℕ) → getD nodes k 0 < 256) (w : Checked nodes wires i) where
+  x-small : (k : ℕ) → nodeX nodes k < 65536
+  x-small k = omega (arith, bytes (nodeBytes * k), bytes (nodeBytes * k + 1))
+
+  y-small : (k : ℕ) → nodeY nodes k < 65536
+  y-small k = omega (arith, bytes (nodeBytes * k + 2), bytes (nodeBytes * k + 2 + 1))
+
+  pub length-small : wireLength nodes wires i < 65536
+  unfolding wireLength
+  length-small =
+      let p = wireParent wires i in
+      ⊎-elim {C = wireLength nodes wires i < 65536}
+      (λ e. omega (arith, x-small i, y-small i, x-small p, y-small p))
+      (λ e. omega (arith, x-small i, y-small i, x-small p, y-small p))
+      (w .straight)
+
+  pub reach-x : {t : ℕ} → t ≤ wireLength nodes wires i → Reach (nodeX nodes i) (heading (nodeX nodes i) (nodeX nodes (wireParent wires i))) t
+  unfolding wireLength
+  reach-x {t} l =
+      let p = wireParent wires i in
+      reach-toward (nodeX nodes i) (nodeX nodes p) t (x-small i) (x-small p) (omega (arith, length-small))
+      (⊎-elim (λ e. inl e) (λ e. inr (omega arith)) (w .straight))
+
+  pub reach-y : {t : ℕ} → t ≤ wireLength nodes wires i → Reach (nodeY nodes i) (heading (nodeY nodes i) (nodeY nodes (wireParent wires i))) t
+  unfolding wireLength
+  reach-y {t} l =
+      let p = wireParent wires i in
+      reach-toward (nodeY nodes i) (nodeY nodes p) t (y-small i) (y-small p) (omega (arith, length-small))
+      (⊎-elim (λ e. inr (omega arith)) (λ e. inl e) (w .straight))
+
+pub point-x-is : (nodes wires : List ℕ) (i t : ℕ) → stepped (nodeX nodes i) (heading (nodeX nodes i) (nodeX nodes (wireParent wires i))) t ≡ pointX nodes wires i t
+unfolding pointX
+point-x-is nodes wires i t = stepped-toward (nodeX nodes i) (nodeX nodes (wireParent wires i)) t
+
+pub point-y-is : (nodes wires : List ℕ) (i t : ℕ) → stepped (nodeY nodes i) (heading (nodeY nodes i) (nodeY nodes (wireParent wires i))) t ≡ pointY nodes wires i t
+unfolding pointY
+point-y-is nodes wires i t = stepped-toward (nodeY nodes i) (nodeY nodes (wireParent wires i)) t
+
+-- an obstacle's stretch of a line, on both axes
+pub obstacle-below : (obstacles : List ℕ) (k x y : ℕ) (dx dy : ℤ) {a b r : ℕ} →
+    a ≡ lastBelow x dx (obstacleX1 obstacles k) (obstacleX2 obstacles k) → b ≡ lastBelow y dy (obstacleY1 obstacles k) (obstacleY2 obstacles k) →
+    a ≤ r → b ≤ r → (r ≡ a) ⊎ (r ≡ b) → LastBelow (λ t. holds obstacles k (stepped x dx t) (stepped y dy t)) r
+unfolding holds
+obstacle-below obstacles k x y dx dy ea eb l m o =
+    both-below
+    (rw (← ea) at (axis-below x dx (obstacleX1 obstacles k) (obstacleX2 obstacles k)))
+    (rw (← eb) at (axis-below y dy (obstacleY1 obstacles k) (obstacleY2 obstacles k)))
+    l
+    m
+    o
+
+pub obstacle-above : (obstacles : List ℕ) (k x y end : ℕ) (dx dy : ℤ) {a b r : ℕ} → Reach x dx end → Reach y dy end →
+    a ≡ firstAbove x dx (obstacleX1 obstacles k) (obstacleX2 obstacles k) end → b ≡ firstAbove y dy (obstacleY1 obstacles k) (obstacleY2 obstacles k) end →
+    r ≤ a → r ≤ b → (r ≡ a) ⊎ (r ≡ b) → FirstAbove (λ t. holds obstacles k (stepped x dx t) (stepped y dy t)) end r
+unfolding holds
+obstacle-above obstacles k x y end dx dy rx ry ea eb l m o =
+    both-above
+    (rw (← ea) at (axis-above (obstacleX1 obstacles k) (obstacleX2 obstacles k) rx))
+    (rw (← eb) at (axis-above (obstacleY1 obstacles k) (obstacleY2 obstacles k) ry))
+    l
+    m
+    o
+
+-- some obstacle holds the point t steps on from x, y
+unfoldable pub heldAt : List ℕ → ℕ → ℕ → ℤ → ℤ → ℕ → Bool
+heldAt obstacles x y dx dy t = any (obstacleCount obstacles) (λ k. holds obstacles k (stepped x dx t) (stepped y dy t))
+
+pub held-is : (nodes wires obstacles : List ℕ) (i t : ℕ) →
+    heldAt obstacles (nodeX nodes i) (nodeY nodes i) (heading (nodeX nodes i) (nodeX nodes (wireParent wires i))) (heading (nodeY nodes i) (nodeY nodes (wireParent wires i))) t
+    ≡ barred nodes wires obstacles i t
+unfolding heldAt barred
+held-is nodes wires obstacles i t =
+    rw (point-x-is nodes wires i t, point-y-is nodes wires i t)
+
+-- the first of n that passes a test tells whether any does
+pub first-none : (n r : ℕ) (f : ℕ → Bool) → ((j : ℕ) → j < r → f j ≡ false) → n ≤ r → any n f ≡ false
+first-none n r f before l = any-none n f (λ j h. before j (omega arith))
+
+pub first-any : (n r : ℕ) (f : ℕ → Bool) → ((j : ℕ) → j < r → f j ≡ false) → (r < n → f r ≡ true) → ltb r n ≡ any n f
+first-any n r f before found =
+    by (ltb r n) (λ h. h ∙ sym (any-yes n r f (ltb-true r n h) (found (ltb-true r n h))))
+    (λ h. h ∙ sym (first-none n r f before (ltb-false r n h)))
+
+-- an obstacle that holds a position is left behind in one step
+module _ (obstacles : List ℕ) (k x y : ℕ) (dx dy : ℤ) (inside : k < obstacleCount obstacles) {t r : ℕ} (held : holds obstacles k (stepped x dx t) (stepped y dy t) ≡ true) where
+  pub leap-down : {last : ℕ} → 0 < t → LastBelow (λ t. holds obstacles k (stepped x dx t) (stepped y dy t)) r →
+      ((s : ℕ) → t < s → s ≤ last → heldAt obstacles x y dx dy s ≡ true) → (r < t) × ((s : ℕ) → r < s → s ≤ last → heldAt obstacles x y dx dy s ≡ true)
+  unfolding heldAt
+  leap-down {last} p b passed =
+      let z = b t p held in (
+        z .0,
+        λ s l m.
+            by (leb s t) (λ h. any-yes (obstacleCount obstacles) k (λ k. holds obstacles k (stepped x dx s) (stepped y dy s)) inside (z .1 s l (leb-true s t h)))
+            (λ h. passed s (leb-false s t h) m),
+      )
+
+  pub leap-up : {first end : ℕ} → t < end → FirstAbove (λ t. holds obstacles k (stepped x dx t) (stepped y dy t)) end r →
+      ((s : ℕ) → first ≤ s → s < t → heldAt obstacles x y dx dy s ≡ true) → (t < r) × ((s : ℕ) → first ≤ s → s < r → heldAt obstacles x y dx dy s ≡ true)
+  unfolding heldAt
+  leap-up {first} {end} p b passed =
+      let z = b t p held in (
+        z .0,
+        λ s l m.
+            by (ltb s t) (λ h. passed s l (ltb-true s t h))
+            (λ h. any-yes (obstacleCount obstacles) k (λ k. holds obstacles k (stepped x dx s) (stepped y dy s)) inside (z .1 s (ltb-false s t h) m)),
+      )
+
+-- a search that speaks of the same test
+pub highest-ap : {b d : ℕ → Bool} {x r : ℕ} → ((t : ℕ) → b t ≡ d t) → Highest b x r → Highest d x r
+highest-ap e h =
+    record { within = h .within; free = λ p. sym (e _) ∙ h .free p; above = λ t l m. sym (e t) ∙ h .above t l m }
+
+pub lowest-ap : {b d : ℕ → Bool} {x end r : ℕ} → ((t : ℕ) → b t ≡ d t) → Lowest b x end r → Lowest d x end r
+lowest-ap e h =
+    record {
+      from = h .from;
+      within = h .within;
+      free = λ p. sym (e _) ∙ h .free p;
+      below = λ t l m. sym (e t) ∙ h .below t l m;
+      none = λ z t l m. sym (e t) ∙ h .none z t l m;
+    }

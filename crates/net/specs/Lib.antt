@@ -1,5 +1,6 @@
 pub mod Layout
 pub mod Net
+pub mod Cuttable
 pub mod Geometry
 pub mod Stage
 pub mod Refusal
