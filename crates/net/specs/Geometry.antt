@@ -17,7 +17,8 @@ use borrow.Author.Tests.{ltb-true, ltb-false, lt-ltb, le-ltb, leb-true, leb-fals
 use Rattle.laws.specs.Sum.{any}
 use Rattle.laws.specs.Sums.{by, no-both, and-left, and-right, and-intro, any-yes, any-none}
 use Rattle.net.specs.Layout.{nodeBytes}
-use Rattle.net.specs.Net.{distance, toward, nodeX, nodeY, wireParent, wireLength, pointX, pointY, obstacleX1, obstacleY1, obstacleX2, obstacleY2, obstacleCount, holds, barred}
+use Rattle.net.specs.Net.{distance, toward, nodeCount, nodeX, nodeY, wireParent, wireLength, pointX, pointY, obstacleX1, obstacleY1, obstacleX2, obstacleY2, obstacleCount, holds, barred}
+use Rattle.net.specs.Accepted.{NetRight}
 use Rattle.net.specs.Cuttable.{Checked, Highest, Lowest, LastBelow, FirstAbove}
 
 -- the direction from one coordinate towards another
@@ -333,3 +334,9 @@ lowest-ap e h =
       below = λ t l m. sym (e t) ∙ h .below t l m;
       none = λ z t l m. sym (e t) ∙ h .none z t l m;
     }
+
+-- a wire of a net that meets none of 4 to 11
+pub checked-of : {nodes wires obstacles : List ℕ} → NetRight nodes wires obstacles → (i : ℕ) → 0 < i → i < nodeCount nodes → Checked nodes wires i
+checked-of net i p l =
+    let w = net .wire i p l in
+    record { numbered = p; stored = omega (arith, net .sized .wires-length); node = l; parent = omega (arith, w .below); straight = w .straight }
