@@ -3,3 +3,5 @@ pub mod Count
 pub mod CountLaws
 pub mod CountCutting
 pub mod CountClosing
+pub mod Scan
+pub mod ScanLaws

@@ -1,0 +1,67 @@
+-- What the first passes of repair establish, over the sections of a net and the work arrays.
+-- Assumes nothing.
+use Prim.Native.Nat.{ℕ, _+_, _-_, _*_, _≤_, _<_}
+use mathlib.Core.Path.{_≡_}
+use mathlib.Core.Bool.{Bool, true, false, not, _&&_, cond}
+use mathlib.Core.List.{List}
+use mathlib.Core.Logic.{_⊎_}
+use lib.ListN.{length, getD}
+use lib.Dec.{leb, ltb, eqb}
+use Rattle.laws.specs.Sum.{χ, sum, any}
+use Rattle.net.specs.Layout.{wireBytes, mostNodes}
+use Rattle.net.specs.Net.{nodeCount, nodeX, nodeY, nodeFlags, isGate, isSource, wireParent, wireLayer, wireFactor, wireLength}
+
+-- what reading a net has checked, as far as these passes use it
+pub record Wired (ns ws : List ℕ) : Type 0 where
+  pub few : nodeCount ns ≤ mostNodes
+  pub stored : (i : ℕ) → i < nodeCount ns → wireBytes * i ≤ length ws
+  pub below : (i : ℕ) → 0 < i → i < nodeCount ns → wireParent ws i < i
+  pub straight : (i : ℕ) → 0 < i → i < nodeCount ns → (nodeX ns i ≡ nodeX ns (wireParent ws i)) ⊎ (nodeY ns i ≡ nodeY ns (wireParent ws i))
+
+-- wire i is present at stage k
+abbrev pub made : List ℕ → ℕ → ℕ → Bool
+made ws k i = ltb 0 i && leb (wireLayer ws i) k
+
+-- wire i has a point that may be cut: its lowest one is above 0
+abbrev pub cuttable : List ℕ → ℕ → Bool
+cuttable lo i = ltb 0 (getD lo i 0)
+
+-- wire i is present and cannot be cut
+abbrev pub whole : List ℕ → ℕ → List ℕ → ℕ → Bool
+whole ws k lo i = made ws k i && not (cuttable lo i)
+
+-- the node that node i leads to: where its parent leads if the wire joins them, else i itself
+abbrev pub leader : (ℕ → Bool) → (ℕ → ℕ) → List ℕ → ℕ → ℕ
+leader joined parent l i = cond (joined i) (getD l (parent i) 0) i
+
+-- l has for each node below n the lowest node that it leads to
+abbrev pub Leads : ℕ → (ℕ → Bool) → (ℕ → ℕ) → List ℕ → Type 0
+Leads n joined parent l = (i : ℕ) → i < n → getD l i 0 ≡ leader joined parent l i
+
+-- no node below n leads to a higher one
+abbrev pub Falling : ℕ → List ℕ → Type 0
+Falling n l = (i : ℕ) → i < n → getD l i 0 ≤ i
+
+-- the cluster that branch i hangs on: its parent's; 0 where wire i cannot be cut
+abbrev pub hostOf : List ℕ → List ℕ → List ℕ → ℕ → ℕ
+hostOf ws lo root i = cond (cuttable lo i) (getD root (wireParent ws i) 0) 0
+
+-- some node below n of component k is a source
+abbrev pub sourceIn : List ℕ → List ℕ → ℕ → ℕ → Bool
+sourceIn ns component n k = any n (λ i. eqb (getD component i 0) k && isSource (nodeFlags ns i))
+
+-- 1 if node i is a gate whose component has no source, else 0
+abbrev pub gateOf : List ℕ → List ℕ → List Bool → ℕ → ℕ
+gateOf ns component sourced i = χ (isGate (nodeFlags ns i) && not (getD sourced (getD component i 0) false)) 1
+
+-- what wire i gives to the cluster at its lower end: all of it, or up to its lowest point that may be cut
+abbrev pub lowerWeight : List ℕ → List ℕ → ℕ → List ℕ → ℕ → ℕ
+lowerWeight ns ws k lo i = χ (made ws k i) (cond (cuttable lo i) (getD lo i 0) (wireLength ns ws i) * wireFactor ws i)
+
+-- and to the cluster at its upper end: from its highest point that may be cut on
+abbrev pub upperWeight : List ℕ → List ℕ → List ℕ → List ℕ → ℕ → ℕ
+upperWeight ns ws lo hi i = χ (cuttable lo i) ((wireLength ns ws i - getD hi i 0) * wireFactor ws i)
+
+-- numbers x i of the nodes below n, added up at the places a i
+abbrev pub gathered : ℕ → List ℕ → (ℕ → ℕ) → ℕ → ℕ
+gathered n a x r = sum n (λ i. χ (eqb (getD a i 0) r) (x i))

@@ -1,0 +1,158 @@
+// The first passes of repair: cuttable points, clusters, components, and the weight and gates that no cut parts from a cluster.
+use net::records::is_gate;
+use net::records::is_source;
+use net::records::node_count;
+use net::records::node_flags;
+use net::records::wire_layer;
+use net::records::wire_parent;
+ghost use mathlib.Core.Path.{_≡_};
+ghost use mathlib.Core.Bool.{Bool, true, false};
+ghost use Prim.Native.Nat.{ℕ, _+_, _*_, _<_, _≤_};
+ghost use lib.ListN.{length, getD};
+ghost use Rattle.net.specs.Layout.{wireBytes};
+ghost use Rattle.net.specs.Net.{nodeCount, wireParent};
+ghost use Rattle.jumpers.specs.Scan.{Wired, made, cuttable, whole, leader, Leads, Falling, hostOf, sourceIn, gateOf, gathered};
+
+// Wire i is present at the stage.
+fn is_made(wires: &[u8], stage: u8, i: usize) -> bool
+    requires { ⌜ wireBytes * i ≤ length (now wires) ⌝ }
+    ensures { λ r. ⌜ r ≡ made (now (wires .entry)) stage i ⌝ }
+{
+    if i == 0 {
+        return false;
+    }
+    wire_layer(wires, i) <= stage
+}
+
+// The root of node i's cluster, where lower nodes have theirs.
+fn root_of(wires: &[u8], stage: u8, lo: &[u64], root: &[usize], i: usize) -> usize
+    requires { ⌜ (wireBytes * i ≤ length (now wires)) × (i < length (now lo)) × (i < length (now root)) ⌝ }
+    requires { ⌜ (0 < i → wireParent (now wires) i < i) ⌝ }
+    ensures { λ r. ⌜ r ≡ leader (whole (now (wires .entry)) stage (now (lo .entry))) (wireParent (now (wires .entry))) (now (root .entry)) i ⌝ }
+{
+    if is_made(wires, stage, i) {
+        if lo[i] == 0 {
+            return root[wire_parent(wires, i)];
+        }
+    }
+    i
+}
+
+// Roots of clusters: a node whose wire is present and cannot be cut has its parent's.
+pub fn find_roots(nodes: &[u8], wires: &[u8], stage: u8, lo: &[u64], root: &mut [usize])
+    requires { ⌜ Wired (now nodes) (now wires) ⌝ }
+    requires { ⌜ (nodeCount (now nodes) ≤ length (now lo)) × (nodeCount (now nodes) ≤ length (now root)) ⌝ }
+    ensures { λ _. ⌜ Leads (nodeCount (now (nodes .entry))) (whole (now (wires .entry)) stage (now (lo .entry))) (wireParent (now (wires .entry))) (now (root .exit)) ⌝ }
+{
+    let n = node_count(nodes);
+    let mut i: usize = 0;
+    while i < n {
+        root[i] = root_of(wires, stage, lo, root, i);
+        i += 1;
+    }
+}
+
+// The host of node i: its parent's root where wire i can be cut, else 0.
+fn host_of(wires: &[u8], lo: &[u64], root: &[usize], i: usize) -> usize
+    requires { ⌜ (wireBytes * i ≤ length (now wires)) × (i < length (now lo)) × (i < length (now root)) ⌝ }
+    requires { ⌜ (0 < i → wireParent (now wires) i < i) × (0 < getD (now lo) i 0 → 0 < i) ⌝ }
+    ensures { λ r. ⌜ r ≡ hostOf (now (wires .entry)) (now (lo .entry)) (now (root .entry)) i ⌝ }
+{
+    if 0 < lo[i] {
+        return root[wire_parent(wires, i)];
+    }
+    0
+}
+
+// Hosts of branches: the cluster that each hangs on.
+pub fn find_hosts(nodes: &[u8], wires: &[u8], lo: &[u64], root: &[usize], host: &mut [usize])
+    requires { ⌜ Wired (now nodes) (now wires) ⌝ }
+    requires { ⌜ (nodeCount (now nodes) ≤ length (now lo)) × (nodeCount (now nodes) ≤ length (now root)) × (nodeCount (now nodes) ≤ length (now host)) ⌝ }
+    requires { ⌜ getD (now lo) 0 0 ≡ 0 ⌝ }
+    ensures { λ _. ⌜ ((i : ℕ) → i < nodeCount (now (nodes .entry)) → getD (now (host .exit)) i 0 ≡ hostOf (now (wires .entry)) (now (lo .entry)) (now (root .entry)) i) ⌝ }
+{
+    let n = node_count(nodes);
+    let mut i: usize = 0;
+    while i < n {
+        host[i] = host_of(wires, lo, root, i);
+        i += 1;
+    }
+}
+
+// The lowest node of node i's uncut component, where lower nodes have theirs.
+fn component_of(wires: &[u8], stage: u8, component: &[usize], i: usize) -> usize
+    requires { ⌜ (wireBytes * i ≤ length (now wires)) × (i < length (now component)) ⌝ }
+    requires { ⌜ (0 < i → wireParent (now wires) i < i) ⌝ }
+    ensures { λ r. ⌜ r ≡ leader (made (now (wires .entry)) stage) (wireParent (now (wires .entry))) (now (component .entry)) i ⌝ }
+{
+    if is_made(wires, stage, i) {
+        return component[wire_parent(wires, i)];
+    }
+    i
+}
+
+// Uncut components: a node whose wire is present is in its parent's.
+pub fn find_components(nodes: &[u8], wires: &[u8], stage: u8, component: &mut [usize])
+    requires { ⌜ Wired (now nodes) (now wires) ⌝ }
+    requires { ⌜ nodeCount (now nodes) ≤ length (now component) ⌝ }
+    ensures { λ _. ⌜ Leads (nodeCount (now (nodes .entry))) (made (now (wires .entry)) stage) (wireParent (now (wires .entry))) (now (component .exit)) ⌝ }
+{
+    let n = node_count(nodes);
+    let mut i: usize = 0;
+    while i < n {
+        component[i] = component_of(wires, stage, component, i);
+        i += 1;
+    }
+}
+
+// Which components have a source.
+pub fn mark_sources(nodes: &[u8], component: &[usize], sourced: &mut [bool])
+    requires { ⌜ (nodeCount (now nodes) ≤ length (now component)) × (nodeCount (now nodes) ≤ length (now sourced)) ⌝ }
+    requires { ⌜ Falling (nodeCount (now nodes)) (now component) ⌝ }
+    ensures { λ _. ⌜ ((k : ℕ) → k < nodeCount (now (nodes .entry)) → getD (now (sourced .exit)) k false ≡ sourceIn (now (nodes .entry)) (now (component .entry)) (nodeCount (now (nodes .entry))) k) ⌝ }
+{
+    let n = node_count(nodes);
+    let mut i: usize = 0;
+    while i < n {
+        sourced[i] = false;
+        if is_source(node_flags(nodes, i)) {
+            sourced[component[i]] = true;
+        }
+        i += 1;
+    }
+}
+
+// 1 if node i is a gate whose component has no source, else 0.
+fn gate_of(nodes: &[u8], component: &[usize], sourced: &[bool], i: usize) -> u64
+    requires { ⌜ (i < nodeCount (now nodes)) × (i < length (now component)) × (getD (now component) i 0 < length (now sourced)) ⌝ }
+    ensures { λ r. ⌜ r ≡ gateOf (now (nodes .entry)) (now (component .entry)) (now (sourced .entry)) i ⌝ }
+{
+    if is_gate(node_flags(nodes, i)) {
+        if !sourced[component[i]] {
+            return 1;
+        }
+    }
+    0
+}
+
+// The gates of each cluster whose components have no source.
+pub fn count_gates(
+    nodes: &[u8],
+    root: &[usize],
+    component: &[usize],
+    sourced: &[bool],
+    gates: &mut [u64],
+)
+    requires { ⌜ (nodeCount (now nodes) ≤ length (now root)) × (nodeCount (now nodes) ≤ length (now component)) × (nodeCount (now nodes) ≤ length (now sourced)) × (nodeCount (now nodes) ≤ length (now gates)) ⌝ }
+    requires { ⌜ Falling (nodeCount (now nodes)) (now root) × Falling (nodeCount (now nodes)) (now component) ⌝ }
+    ensures { λ _. ⌜ ((r : ℕ) → r < nodeCount (now (nodes .entry)) → getD (now (gates .exit)) r 0 ≡ gathered (nodeCount (now (nodes .entry))) (now (root .entry)) (gateOf (now (nodes .entry)) (now (component .entry)) (now (sourced .entry))) r) ⌝ }
+{
+    let n = node_count(nodes);
+    let mut i: usize = 0;
+    while i < n {
+        gates[i] = 0;
+        let r = root[i];
+        gates[r] += gate_of(nodes, component, sourced, i);
+        i += 1;
+    }
+}
