@@ -4,3 +4,5 @@ pub mod Tree
 pub mod Bytes
 pub mod Gather
 pub mod Gathers
+pub mod Masks
+pub mod Place
