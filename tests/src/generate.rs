@@ -410,7 +410,7 @@ pub fn jumpers(random: &mut Random, net: &Net, stage: u32) -> Vec<Point> {
 /// A jumper list, good or damaged.
 pub fn jumper_list(random: &mut Random, net: &Net, stage: u32) -> Vec<u8> {
     let mut points = jumpers(random, net, stage);
-    for _ in 0..random.pick(&[0, 0, 1, 1, 2]) {
+    for _ in 0..random.pick(&[0, 0, 0, 1, 1, 2]) {
         let count = points.len() as u64;
         let at = random.below(count + 1) as usize;
         match random.below(6) {
@@ -422,12 +422,12 @@ pub fn jumper_list(random: &mut Random, net: &Net, stage: u32) -> Vec<u8> {
                 let at = random.below(count - 1) as usize;
                 points.swap(at, at + 1);
             }
-            2 => {
+            2 if random.chance(1, 4) => {
                 points.insert(at, (random.below(256) as usize, random.below(70) as usize));
                 points.sort();
             }
             3 if !net.wires.is_empty() => {
-                // a point of any wire, at or near an end too
+                // at or near an end of any wire
                 let i = random.range(1, net.wires.len() as u64) as usize;
                 let length = net.length(i) as u64;
                 let t = random.pick(&[0, 1, length.saturating_sub(1), length, length + 1]);
@@ -435,14 +435,17 @@ pub fn jumper_list(random: &mut Random, net: &Net, stage: u32) -> Vec<u8> {
                 points.sort();
                 points.dedup();
             }
-            4 if !net.wires.is_empty() => {
+            4 | 5 if !net.wires.is_empty() => {
+                // inside a wire, barred or not
                 let i = random.range(1, net.wires.len() as u64) as usize;
-                let t = random.range(0, net.length(i) as u64);
-                points.push((i, t as usize));
-                points.sort();
-                points.dedup();
+                let length = net.length(i) as u64;
+                if length > 1 {
+                    points.push((i, random.range(1, length - 1) as usize));
+                    points.sort();
+                    points.dedup();
+                }
             }
-            _ => points.insert(at, (random.below(4) as usize, random.below(4) as usize)),
+            _ => {}
         }
     }
     let mut list = list_of(&points);

@@ -1,19 +1,14 @@
 //! An implementation of document 01 that shares nothing with the proved one, and what the tests need around it.
 
 pub mod generate;
+#[path = "../../include/antenna.rs"]
+pub mod library;
 pub mod plain;
 pub mod random;
 pub mod reference;
 pub mod suite;
 
-/// What a call answers: number 0 is done; after a refusal the count is 0.
-#[repr(C)]
-#[derive(Clone, Copy, Debug, PartialEq, Eq)]
-pub struct Answer {
-    pub number: u32,
-    pub place: u64,
-    pub count: u64,
-}
+pub use library::Answer;
 
 impl Answer {
     pub fn done(count: usize) -> Answer {

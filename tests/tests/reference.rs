@@ -63,12 +63,21 @@ fn number_and_weight_of_pieces() {
 }
 
 #[test]
-fn plain_reader_and_writer() {
-    suite::net::random_files(read, write, 20_000);
+fn plain_reader() {
+    suite::net::random_files(read, 20_000);
+    suite::net::cut_at_every_length(read);
     suite::net::heads_at_the_edges(read, 5_000);
+    suite::net::very_long_files(read);
+    suite::net::smallest_files(read);
+}
+
+#[test]
+fn plain_writer() {
+    suite::net::random_sections(write, 20_000);
     suite::net::every_length_lent(write);
-    suite::net::very_long_files(read, write);
-    suite::net::empty_and_smallest(read, write);
+    suite::net::very_long_sections(write);
+    suite::net::smallest_sections(write);
+    suite::net::written_is_read(read, write);
 }
 
 #[test]

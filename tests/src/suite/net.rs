@@ -3,7 +3,7 @@
 use crate::generate::{any_file, any_net, damage_file, damaged_sections, net, Shape};
 use crate::random::Random;
 use crate::reference::net::{file, read as expected_read, write as expected_write, Net};
-use crate::{Read, Write};
+use crate::{Answer, Read, Write};
 
 fn largest_net(random: &mut Random) -> Net {
     let shape = Shape {
@@ -37,15 +37,25 @@ fn compare_write(write: Write, [nodes, wires, obstacles]: &[Vec<u8>; 3], lent: u
     expected.number
 }
 
-/// Random files and sections, good and damaged; every refusal is met often.
-pub fn random_files(read: Read, write: Write, cases: usize) {
+/// Random files, good and damaged; every refusal is met often.
+pub fn random_files(read: Read, cases: usize) {
     let mut random = Random::new(10);
-    let mut read_met = [0usize; 17];
-    let mut write_met = [0usize; 17];
+    let mut met = [0usize; 17];
     for _ in 0..cases {
         let file = any_file(&mut random);
-        read_met[compare_read(read, &file) as usize] += 1;
+        met[compare_read(read, &file) as usize] += 1;
+    }
+    println!("read answers by number: {met:?}");
+    for number in [0, 2, 3, 4, 5, 6, 7, 8, 9, 10, 11] {
+        assert!(met[number] * 400 > cases, "refusal {number}");
+    }
+}
 
+/// Random sections, good and damaged, and buffers near the need; every refusal is met often.
+pub fn random_sections(write: Write, cases: usize) {
+    let mut random = Random::new(15);
+    let mut met = [0usize; 17];
+    for _ in 0..cases {
         let sections = damaged_sections(&mut random);
         let needed: usize = 28 + sections.iter().map(Vec::len).sum::<usize>();
         let lent = match random.below(6) {
@@ -54,54 +64,39 @@ pub fn random_files(read: Read, write: Write, cases: usize) {
             2 => needed,
             _ => needed + random.below(20) as usize,
         };
-        write_met[compare_write(write, &sections, lent) as usize] += 1;
+        met[compare_write(write, &sections, lent) as usize] += 1;
     }
-    println!("read answers by number: {read_met:?}");
-    println!("write answers by number: {write_met:?}");
-    for number in [0, 2, 3, 4, 5, 6, 7, 8, 9, 10, 11] {
-        assert!(read_met[number] * 400 > cases, "refusal {number} by read");
-    }
+    println!("write answers by number: {met:?}");
     for number in [0, 4, 5, 6, 7, 8, 9, 10, 11, 16] {
-        assert!(write_met[number] * 400 > cases, "refusal {number} by write");
+        assert!(met[number] * 400 > cases, "refusal {number}");
     }
 }
 
-/// What the writer wrote is read again, and cut at every length it is refused.
-pub fn cut_at_every_length(read: Read, write: Write) {
-    let mut random = Random::new(11);
-    for k in 0..20 {
-        let net = if k == 0 {
-            largest_net(&mut random)
-        } else {
-            any_net(&mut random)
-        };
-        let mut out = vec![0; net.file().len()];
-        let answer = write(
-            &net.node_section(),
-            &net.wire_section(),
-            &net.obstacle_section(),
-            &mut out,
-        );
-        assert_eq!(answer.number, 0);
-        assert_eq!(answer.count, out.len() as u64);
-        assert_eq!(compare_read(read, &out), 0);
-        for length in 0..out.len() {
-            assert!(compare_read(read, &out[..length]) != 0);
+/// Some nets, the largest among them.
+fn some_nets(seed: u64) -> Vec<Net> {
+    let mut random = Random::new(seed);
+    let mut nets: Vec<Net> = (0..20).map(|_| any_net(&mut random)).collect();
+    nets.push(largest_net(&mut random));
+    nets
+}
+
+/// A file cut at every length, and with a byte more, is refused.
+pub fn cut_at_every_length(read: Read) {
+    for net in some_nets(11) {
+        let mut bytes = net.file();
+        assert_eq!(compare_read(read, &bytes), 0);
+        for length in 0..bytes.len() {
+            assert!(compare_read(read, &bytes[..length]) != 0);
         }
-        out.push(0);
-        assert_eq!(compare_read(read, &out), 3);
+        bytes.push(0);
+        assert_eq!(compare_read(read, &bytes), 3);
     }
 }
 
-/// Each byte of a file and of the sections in turn is changed.
-pub fn damaged_at_every_byte(read: Read, write: Write) {
+/// Each byte of a file in turn is changed.
+pub fn files_damaged_at_every_byte(read: Read) {
     let mut random = Random::new(12);
-    for k in 0..20 {
-        let net = if k == 0 {
-            largest_net(&mut random)
-        } else {
-            any_net(&mut random)
-        };
+    for net in some_nets(12) {
         let mut bytes = net.file();
         for at in 0..bytes.len() {
             let kept = bytes[at];
@@ -113,6 +108,14 @@ pub fn damaged_at_every_byte(read: Read, write: Write) {
             compare_read(read, &bytes);
             bytes[at] = kept;
         }
+    }
+}
+
+/// Each byte of the sections in turn is changed.
+pub fn sections_damaged_at_every_byte(write: Write) {
+    let mut random = Random::new(16);
+    for net in some_nets(16) {
+        let lent = net.file().len();
         let mut sections = [
             net.node_section(),
             net.wire_section(),
@@ -122,10 +125,25 @@ pub fn damaged_at_every_byte(read: Read, write: Write) {
             for at in 0..sections[s].len() {
                 let kept = sections[s][at];
                 sections[s][at] = random.pick(&[0, 1, 4, 17, 255, kept ^ 1, kept ^ 128]);
-                compare_write(write, &sections, bytes.len());
+                compare_write(write, &sections, lent);
                 sections[s][at] = kept;
             }
         }
+    }
+}
+
+/// What the writer wrote is accepted by the reader.
+pub fn written_is_read(read: Read, write: Write) {
+    for net in some_nets(17) {
+        let mut out = vec![0; net.file().len()];
+        let answer = write(
+            &net.node_section(),
+            &net.wire_section(),
+            &net.obstacle_section(),
+            &mut out,
+        );
+        assert_eq!(answer, Answer::done(out.len()));
+        assert_eq!(read(&out), Answer::done(net.nodes.len()));
     }
 }
 
@@ -240,9 +258,10 @@ impl Drop for Zeros {
     }
 }
 
+const WHOLE: usize = 1 << 32;
+
 /// Files of more than 2^32 bytes: nothing of a length is lost.
-pub fn very_long_files(read: Read, write: Write) {
-    const WHOLE: usize = 1 << 32;
+pub fn very_long_files(read: Read) {
     let mut zeros = Zeros::new(WHOLE + (1 << 20));
     let all = zeros.bytes();
     let mut case = |lengths: [u32; 3], length: usize, number: u32| {
@@ -267,8 +286,11 @@ pub fn very_long_files(read: Read, write: Write) {
     case([u32::MAX - 28, 0, 800], WHOLE - 1 + 800, 4);
     case([u32::MAX - 28, 0, 1], WHOLE, 4);
     case([5, 0, u32::MAX - 32], WHOLE, 6);
+}
 
-    // sections whose lengths taken by 32 bits would fit
+/// Sections whose lengths taken by 32 bits would fit.
+pub fn very_long_sections(write: Write) {
+    let mut zeros = Zeros::new(WHOLE + (1 << 20));
     let all = zeros.bytes();
     let mut out = vec![0xa5; 100];
     for (lengths, number) in [
@@ -277,27 +299,26 @@ pub fn very_long_files(read: Read, write: Write) {
         ([5, 0, WHOLE], 6),
         ([5, 0, WHOLE + 8], 6),
     ] {
-        all[..28].fill(0);
         let [nodes, wires, obstacles] = lengths.map(|length| &all[..length]);
-        let answer = write(nodes, wires, obstacles, &mut out);
-        assert_eq!((answer.number, answer.place, answer.count), (number, 0, 0));
+        assert_eq!(
+            write(nodes, wires, obstacles, &mut out),
+            Answer::refused(number, 0)
+        );
         assert!(out.iter().all(|&b| b == 0xa5));
     }
 }
 
-/// Sections and buffers of length 0, and the smallest net.
-pub fn empty_and_smallest(read: Read, write: Write) {
+/// A file of no bytes, and the smallest net.
+pub fn smallest_files(read: Read) {
     assert_eq!(compare_read(read, &[]), 2);
+    assert_eq!(compare_read(read, &file(&[9, 0, 8, 0, 3], &[], &[])), 0);
+}
+
+/// Sections and buffers of no bytes, and the smallest net.
+pub fn smallest_sections(write: Write) {
     let empty = || Vec::new();
+    let one = || vec![9, 0, 8, 0, 3];
     assert_eq!(compare_write(write, &[empty(), empty(), empty()], 0), 4);
-    let one = vec![9, 0, 8, 0, 3];
-    assert_eq!(
-        compare_write(write, &[one.clone(), empty(), empty()], 0),
-        16
-    );
-    assert_eq!(
-        compare_write(write, &[one.clone(), empty(), empty()], 33),
-        0
-    );
-    assert_eq!(compare_read(read, &file(&one, &[], &[])), 0);
+    assert_eq!(compare_write(write, &[one(), empty(), empty()], 0), 16);
+    assert_eq!(compare_write(write, &[one(), empty(), empty()], 33), 0);
 }

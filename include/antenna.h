@@ -1,0 +1,73 @@
+/*
+ * antenna.h: the antenna desk's calls.
+ *
+ * Every call takes numbers and byte slices, each slice as a pointer and a
+ * length. A pointer with length 0 may be anything, NULL included. All values
+ * in the bytes are unsigned and little-endian.
+ *
+ * Ownership: the library keeps nothing and allocates nothing. What is lent
+ * belongs to the caller and is used only during the call.
+ *
+ * Threads: the calls share no state; any number may run at once.
+ *
+ * Any bytes are taken: a file that is wrong is refused by the number of the
+ * first condition it meets.
+ */
+#ifndef ANTENNA_H
+#define ANTENNA_H
+
+#include <stddef.h>
+#include <stdint.h>
+
+#define ANTENNA_VERSION_MAJOR 0
+#define ANTENNA_VERSION_MINOR 1
+
+#ifdef __cplusplus
+extern "C" {
+#endif
+
+/* Refusals: the number of an answer. The place is given behind each. */
+enum {
+    ANTENNA_DONE = 0,              /* no refusal: place 0 */
+    ANTENNA_HEAD = 2,              /* file under 28 bytes, or version not 1, or pair count not 3: 0 */
+    ANTENNA_PAIRS = 3,             /* a section does not begin where the one before ends, the first at 28, the last ending with the file: 0 */
+    ANTENNA_NODE_SECTION = 4,      /* node section not in fives, or not 1 to 256 nodes: 0 */
+    ANTENNA_WIRE_SECTION = 5,      /* wire section not 3 x (nodes - 1) bytes: 0 */
+    ANTENNA_OBSTACLE_SECTION = 6,  /* obstacle section not in eights, or over 256 obstacles: 0 */
+    ANTENNA_NODE_FLAGS = 7,        /* flags over 3: the node */
+    ANTENNA_WIRE_PARENT = 8,       /* parent not below the wire's own number: the wire */
+    ANTENNA_WIRE_RANGE = 9,        /* layer not 1 to 16, or factor 0: the wire */
+    ANTENNA_WIRE_ENDS = 10,        /* ends differ in x and y: the wire */
+    ANTENNA_OBSTACLE_CORNERS = 11  /* corners reversed: the obstacle, from 0 */
+};
+
+/* The flags of a node. */
+enum {
+    ANTENNA_GATE = 1,
+    ANTENNA_SOURCE = 2
+};
+
+/* What every call returns. After a refusal count is 0. */
+typedef struct {
+    uint32_t number; /* 0: done; otherwise the refusal */
+    uint64_t place;  /* after a refusal: see above */
+    uint64_t count;  /* after success: see each call */
+} antenna_answer;
+
+/*
+ * Reads a net file. Tries refusals 2 to 11.
+ * Count: the number of nodes.
+ *
+ * Net file: version (16 bits, 1), pair count (16 bits, 3), three pairs of
+ * offset and length (32 bits each), then the sections they name, one behind
+ * the other: nodes (x, y: 16 bits each; flags: 8 bits, 1 gate, 2 source),
+ * wires from wire 1 on (parent, layer, factor: 8 bits each), obstacles
+ * (x1, y1, x2, y2: 16 bits each).
+ */
+antenna_answer antenna_read(const uint8_t *file, size_t file_len);
+
+#ifdef __cplusplus
+}
+#endif
+
+#endif

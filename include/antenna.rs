@@ -1,0 +1,19 @@
+//! The calls of `antenna.h` for Rust. A slice goes over as its pointer and length.
+
+/// What every call returns: number 0 is done, otherwise the refusal; after a refusal the count is 0.
+#[repr(C)]
+#[derive(Clone, Copy, Debug, PartialEq, Eq)]
+pub struct Answer {
+    pub number: u32,
+    pub place: u64,
+    pub count: u64,
+}
+
+#[link(name = "antenna", kind = "static")]
+extern "C" {
+    fn antenna_read(file: *const u8, file_len: usize) -> Answer;
+}
+
+pub fn read(file: &[u8]) -> Answer {
+    unsafe { antenna_read(file.as_ptr(), file.len()) }
+}
