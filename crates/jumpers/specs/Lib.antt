@@ -1,7 +1,8 @@
 pub mod Arrays
-pub mod Count
-pub mod CountLaws
-pub mod CountCutting
-pub mod CountClosing
+pub mod Close
+pub mod CloseSums
+pub mod CloseCutting
+pub mod CloseEndings
+pub mod CountFrame
 pub mod Scan
 pub mod ScanLaws

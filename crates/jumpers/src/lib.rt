@@ -1,3 +1,3 @@
 // The code of repair: cuttable points, clusters, the pass down, the pass up, the jumper list.
-mod count;
+mod close;
 mod scan;

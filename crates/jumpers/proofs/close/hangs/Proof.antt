@@ -1,9 +1,9 @@
--- `jumpers::count::hangs` meets its contract.
+-- `jumpers::close::hangs` meets its contract.
 -- Assumes nothing.
 use borrow.Author.Needs.{needs}
 use borrow.Author.Tests.{lt-ltb, le-ltb}
-use Rattle.jumpers.proofs.count.hangs.Statement.{statement}
-use Rattle.jumpers.proofs.count.hangs.Tie as tie
+use Rattle.jumpers.proofs.close.hangs.Statement.{statement}
+use Rattle.jumpers.proofs.close.hangs.Tie as tie
 
 mul-if1 : tie.Need-mul-if1
 mul-if1 c = search needs

@@ -1,4 +1,4 @@
--- Laws of the pass down's sums over branches, one turn of a loop at a time.
+-- Laws of a cluster's sums over its branches, one turn of a loop at a time.
 -- Assumes nothing.
 use Prim.Native.Nat.{ℕ, _+_, _≤_, _<_}
 use mathlib.Core.Path.{_≡_, refl, sym, _∙_, ap}
@@ -12,7 +12,7 @@ use lib.Dec.{ltb, eqb}
 use borrow.Author.Tests.{ltb-true, ltb-false, lt-ltb, le-ltb, eqb-true, eqb-false}
 use Rattle.laws.specs.Sum.{χ, sum}
 use Rattle.laws.specs.Sums.{tf, by, no-both, and-left, and-right, and-intro, last-or-below, χ-yes, χ-no, χ-≤, sum-ap, sum-≤, sum-+, sum-zero, sum-bound, sum-pick, term-≤, sum-next, sum-next-≤}
-use Rattle.jumpers.specs.Count.{hung, branchSum, flaggedCount, flaggedSum, clearCount, clearSum, heavierThan, Uncut, Heaviest, Cutting}
+use Rattle.jumpers.specs.Close.{hung, branchSum, flaggedCount, flaggedSum, clearCount, clearSum, heavierThan, Uncut, Heaviest, Cutting}
 
 -- ---- a test and two of its parts
 pub χ-both : {h p : Bool} (x : ℕ) → h ≡ true → p ≡ true → χ (h && p) x ≡ x

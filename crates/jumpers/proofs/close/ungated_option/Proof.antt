@@ -1,14 +1,14 @@
--- `jumpers::count::ungated_option` meets its contract: number and weight so far are those of the branches passed.
+-- `jumpers::close::ungated_option` meets its contract: number and weight so far are those of the branches passed.
 -- Assumes nothing.
 use Prim.Native.Nat.{ℕ, _≤_, _-_, _+_}
 use mathlib.Core.Path.{_≡_, sym, _∙_, ap}
 use mathlib.Core.Logic.{⊎-elim}
 use native.Mathlib.Omega.{arith}
 use lib.ListN.{getD}
-use Rattle.jumpers.specs.Count.{clearCount, flaggedSum}
-use Rattle.jumpers.specs.CountLaws.{option-none, option-clear, option-flagged, option-no, option-room}
-use Rattle.jumpers.proofs.count.ungated_option.Statement.{statement}
-use Rattle.jumpers.proofs.count.ungated_option.Tie as tie
+use Rattle.jumpers.specs.Close.{clearCount, flaggedSum}
+use Rattle.jumpers.specs.CloseSums.{option-none, option-clear, option-flagged, option-no, option-room}
+use Rattle.jumpers.proofs.close.ungated_option.Statement.{statement}
+use Rattle.jumpers.proofs.close.ungated_option.Tie as tie
 
 abbrev Inv-loop : tie.InvT-loop
 Inv-loop lo host ungatable ungated r n cuts₀ weight₀ j₀ cuts weight j = (j ≤ n) × (cuts ≤ j) × (cuts ≡ clearCount j lo host r ungatable) × (weight ≡ flaggedSum j lo host r ungatable ungated)

@@ -1,9 +1,9 @@
-// The pass down of repair: for each cluster and branch the fewest points below it, and the weight that they leave.
+// Closing a cluster in the pass down: the fewest points below it, and the weight that they leave.
 ghost use mathlib.Core.Path.{_≡_};
 ghost use mathlib.Core.Bool.{Bool, true, false};
 ghost use Prim.Native.Nat.{ℕ, _+_, _<_, _≤_, _^_};
 ghost use lib.ListN.{length, getD};
-ghost use Rattle.jumpers.specs.Count.{hung, branchSum, flaggedSum, clearCount, heavierThan, Heaviest, Cutting, Lengths, Room, Closes};
+ghost use Rattle.jumpers.specs.Close.{hung, branchSum, flaggedSum, clearCount, heavierThan, Heaviest, Cutting, Lengths, Room, Closes};
 
 // How many branches an option cuts, and the weight of the others.
 struct Choice {
@@ -141,17 +141,17 @@ fn cut_heaviest(
 }
 
 // What closing a cluster finds: the fewest points below it; which options reach that number, and the weight that each leaves; or that no set is legal.
-struct Closing {
-    fewest: u64,
-    any: bool,
-    anyweight: u64,
-    ungated: bool,
-    ungatedweight: u64,
-    hopeless: bool,
+pub struct Closing {
+    pub fewest: u64,
+    pub any: bool,
+    pub anyweight: u64,
+    pub ungated: bool,
+    pub ungatedweight: u64,
+    pub hopeless: bool,
 }
 
 // Closes cluster r, whose branches are all done.
-fn close(
+pub fn close(
     lo: &[u64],
     host: &[usize],
     count: &[u64],

@@ -1,12 +1,12 @@
--- `jumpers::count::cut_heaviest` meets its contract: the branches cut so far are the heaviest, and the weight left falls with each.
+-- `jumpers::close::cut_heaviest` meets its contract: the branches cut so far are the heaviest, and the weight left falls with each.
 -- Assumes nothing.
 use Prim.Native.Nat.{_≤_, _+_}
 use mathlib.Core.Path.{_≡_, sym, _∙_}
 use native.Mathlib.Omega.{arith}
-use Rattle.jumpers.specs.Count.{branchSum, Cutting}
-use Rattle.jumpers.specs.CountCutting.{cutting-start, cutting-more, cutting-step, cutting-part}
-use Rattle.jumpers.proofs.count.cut_heaviest.Statement.{statement}
-use Rattle.jumpers.proofs.count.cut_heaviest.Tie as tie
+use Rattle.jumpers.specs.Close.{branchSum, Cutting}
+use Rattle.jumpers.specs.CloseCutting.{cutting-start, cutting-more, cutting-step, cutting-part}
+use Rattle.jumpers.proofs.close.cut_heaviest.Statement.{statement}
+use Rattle.jumpers.proofs.close.cut_heaviest.Tie as tie
 
 abbrev Inv-loop : tie.InvT-loop
 Inv-loop lo host lightest cut₀ r n fixed limit left₀ cuts₀ cut left cuts = Cutting n lo host lightest cut₀ cut r fixed limit cuts left × (cuts + left ≤ fixed + branchSum n lo host r lightest)

@@ -1,13 +1,13 @@
--- `jumpers::count::close` meets its contract: each ending is one of `Closed`, or a gate with more fixed weight than the limit.
+-- `jumpers::close::close` meets its contract: each ending is one of `Closed`, or a gate with more fixed weight than the limit.
 -- Assumes nothing.
 use mathlib.Core.Path.{_≡_, refl, sym, _∙_}
 use mathlib.Core.Logic.{inl, inr}
 use mathlib.Core.Bool.{false≢true, true≢false}
 use native.Mathlib.Omega.{arith}
-use Rattle.jumpers.specs.CountLaws.{flagged-few}
-use Rattle.jumpers.specs.CountClosing.{ends-any, ends-both, ends-ungated}
-use Rattle.jumpers.proofs.count.close.Statement.{statement}
-use Rattle.jumpers.proofs.count.close.Tie as tie
+use Rattle.jumpers.specs.CloseSums.{flagged-few}
+use Rattle.jumpers.specs.CloseEndings.{ends-any, ends-both, ends-ungated}
+use Rattle.jumpers.proofs.close.close.Statement.{statement}
+use Rattle.jumpers.proofs.close.close.Tie as tie
 
 branch-sum-requires : tie.Need-branch-sum-requires
 branch-sum-requires c κs = let p = c .before .before .before .before .before .before .before .pre in omega (arith, p .0 .los, p .0 .hosts, p .0 .counts, p .1 .0 .counts)

@@ -1,10 +1,10 @@
--- `jumpers::count::heavier` meets its contract: its three tests are those of the definition.
+-- `jumpers::close::heavier` meets its contract: its three tests are those of the definition.
 -- Assumes nothing.
 use mathlib.Core.Path.{sym, _∙_}
 use native.Mathlib.Omega.{arith}
 use borrow.Author.Needs.{needs}
-use Rattle.jumpers.proofs.count.heavier.Statement.{statement}
-use Rattle.jumpers.proofs.count.heavier.Tie as tie
+use Rattle.jumpers.proofs.close.heavier.Statement.{statement}
+use Rattle.jumpers.proofs.close.heavier.Tie as tie
 
 hangs-requires : tie.Need-hangs-requires
 hangs-requires c κs = search needs

@@ -9,7 +9,7 @@ use native.Mathlib.Omega.{arith}
 use lib.ListN.{length, getD}
 use Rattle.laws.specs.Sum.{χ, sum}
 use Rattle.cuts.specs.Passes.{Largest, Closed, only-any, both, only-ungated}
-use Rattle.jumpers.specs.Count.{hung, branchSum, flaggedCount, flaggedSum, clearCount, clearSum, Cutting, branchesOf, closingOf}
+use Rattle.jumpers.specs.Close.{hung, branchSum, flaggedCount, flaggedSum, clearCount, clearSum, Cutting, branchesOf, closingOf}
 
 module _ (n : ℕ) (lo host count lightest : List ℕ) (ungatable : List Bool) (ungated : List ℕ) (before cut : List Bool) (r fixed gates limit : ℕ) where
   module _ (fewest : ℕ) (anyOk : Bool) (anyWeight : ℕ) (ungatedOk : Bool) (ungatedWeight : ℕ) where

@@ -1,14 +1,14 @@
--- `jumpers::count::branch_sum` meets its contract: the sum so far is that of the branches passed.
+-- `jumpers::close::branch_sum` meets its contract: the sum so far is that of the branches passed.
 -- Assumes nothing.
 use Prim.Native.Nat.{ℕ, _≤_, _-_, _+_}
 use mathlib.Core.Path.{_≡_, sym, _∙_, ap}
 use mathlib.Core.Logic.{⊎-elim}
 use native.Mathlib.Omega.{arith}
 use lib.ListN.{getD}
-use Rattle.jumpers.specs.Count.{branchSum}
-use Rattle.jumpers.specs.CountLaws.{branch-none, branch-yes, branch-no, branch-room}
-use Rattle.jumpers.proofs.count.branch_sum.Statement.{statement}
-use Rattle.jumpers.proofs.count.branch_sum.Tie as tie
+use Rattle.jumpers.specs.Close.{branchSum}
+use Rattle.jumpers.specs.CloseSums.{branch-none, branch-yes, branch-no, branch-room}
+use Rattle.jumpers.proofs.close.branch_sum.Statement.{statement}
+use Rattle.jumpers.proofs.close.branch_sum.Tie as tie
 
 abbrev Inv-loop : tie.InvT-loop
 Inv-loop lo host values r n sum₀ j₀ sum j = (j ≤ n) × (sum ≡ branchSum j lo host r values)

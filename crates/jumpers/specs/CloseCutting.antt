@@ -12,8 +12,8 @@ use lib.Dec.{eqb}
 use borrow.Author.Tests.{eqb-true, eqb-false, eq-eqb}
 use Rattle.laws.specs.Sum.{χ, sum}
 use Rattle.laws.specs.Sums.{by, no-both, and-left, and-right, χ-yes, sum-ap, sum-+, sum-zero, sum-pick, term-≤}
-use Rattle.jumpers.specs.Count.{hung, branchSum, flaggedCount, clearSum, Uncut, Heaviest, Cutting}
-use Rattle.jumpers.specs.CountLaws.{χ-both, χ-first, χ-second, not-yes, not-no}
+use Rattle.jumpers.specs.Close.{hung, branchSum, flaggedCount, clearSum, Uncut, Heaviest, Cutting}
+use Rattle.jumpers.specs.CloseSums.{χ-both, χ-first, χ-second, not-yes, not-no}
 
 module _ (n : ℕ) (lo host lightest : List ℕ) (r : ℕ) where
   none-cut : (cut : List Bool) → ((j : ℕ) → j < n → hung lo host r j ≡ true → getD cut j false ≡ false) → flaggedCount n lo host r cut ≡ 0

@@ -1,4 +1,4 @@
--- What the parts of the pass down establish, over its work arrays.
+-- What closing a cluster establishes, over the work arrays of the pass down.
 -- Assumes nothing.
 use Prim.Native.Nat.{ℕ, _+_, _^_, _≤_, _<_}
 use mathlib.Core.Path.{_≡_}

@@ -1,13 +1,13 @@
--- `jumpers::count::heaviest` meets its contract: what holds of the branches passed holds of one more.
+-- `jumpers::close::heaviest` meets its contract: what holds of the branches passed holds of one more.
 -- Assumes nothing.
 use Prim.Native.Nat.{_≤_, _-_}
 use mathlib.Core.Path.{_≡_, sym, _∙_}
 use mathlib.Core.Logic.{⊎-elim}
 use native.Mathlib.Omega.{arith}
-use Rattle.jumpers.specs.Count.{Heaviest}
-use Rattle.jumpers.specs.CountLaws.{heaviest-none, heaviest-yes, heaviest-no}
-use Rattle.jumpers.proofs.count.heaviest.Statement.{statement}
-use Rattle.jumpers.proofs.count.heaviest.Tie as tie
+use Rattle.jumpers.specs.Close.{Heaviest}
+use Rattle.jumpers.specs.CloseSums.{heaviest-none, heaviest-yes, heaviest-no}
+use Rattle.jumpers.proofs.close.heaviest.Statement.{statement}
+use Rattle.jumpers.proofs.close.heaviest.Tie as tie
 
 abbrev Inv-loop : tie.InvT-loop
 Inv-loop lo host lightest cut r n at₀ weight₀ j₀ at weight j = (j ≤ n) × Heaviest j lo host lightest cut r at weight
