@@ -2,6 +2,7 @@ pub mod Sum
 pub mod Sums
 pub mod Tree
 pub mod Bytes
+pub mod Lists
 pub mod Gather
 pub mod Gathers
 pub mod Masks

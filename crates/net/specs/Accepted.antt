@@ -167,14 +167,13 @@ obstacle-of os k e =
     record { corners-x = ltb-false _ _ (or-no-left a b t); corners-y = ltb-false _ _ (or-no-right a b t) }
 
 module _ (ns ws os : List ℕ) where
-  pub net-right : netRefusal ns ws os ≡ none → NetRight ns ws os
+  pub net-right-of : met (netRefusal ns ws os) ≡ false → NetRight ns ws os
   unfolding netRefusal
-  net-right e =
+  net-right-of u =
       let r456 = sectionsRefusal ns ws os in
       let r7 = firstOf (nodeCount ns) (λ i. nodeRefusal ns i) in
       let r8 = firstOf (nodeCount ns - 1) (λ i. wireRefusal ns ws (i + 1)) in
       let r11 = firstOf (obstacleCount os) (λ k. obstacleRefusal os k) in
-      let u = ap met e in
       let u7 = unmet-r r456 (orElse r7 (orElse r8 r11)) u in
       let u8 = unmet-r r7 (orElse r8 r11) u7 in
       record {
@@ -185,6 +184,9 @@ module _ (ns ws os : List ℕ) where
             wire-of ns ws i (rw q at (first-unmet (λ i. wireRefusal ns ws (i + 1)) _ (unmet-l r8 r11 u8) (i - 1) (omega arith)));
         obstacle = λ k h. obstacle-of os k (first-unmet _ _ (unmet-r r8 r11 u8) k h);
       }
+
+  pub net-right : netRefusal ns ws os ≡ none → NetRight ns ws os
+  net-right e = net-right-of (ap met e)
 
   -- a wire's record lies in its section
   pub wire-inside : Sized ns ws os → (i : ℕ) → 0 < i → i < nodeCount ns → wireBytes * i ≤ length ws

@@ -8,4 +8,5 @@ pub mod Call
 pub mod File
 pub mod First
 pub mod Reading
+pub mod Writing
 pub mod Accepted

@@ -6,6 +6,7 @@ pub mod layout;
 pub mod read;
 pub mod records;
 pub mod sections;
+pub mod write;
 
 // What a call answers: number 0 is done; another is the refusal of document 01 with its place, and then count is 0.
 #[repr(C)]

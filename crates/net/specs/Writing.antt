@@ -1,0 +1,66 @@
+-- The lengths of a written file's parts, and what each test of the writer shows.
+-- Assumes nothing.
+use Prim.Native.Nat.{ℕ, _+_, _<_, _≤_}
+use mathlib.Core.Path.{_≡_, _∙_, refl}
+use mathlib.Core.Bool.{true, false}
+use mathlib.Core.List.{List, _++_}
+use native.Mathlib.Omega.{arith}
+use lib.ListN.{length, drop, length-append}
+use borrow.Author.Tests.{lt-ltb, le-ltb}
+use Rattle.laws.specs.Lists.{over}
+use Rattle.net.specs.declared.Refusal.{Refusal}
+use Rattle.net.specs.Layout.{headBytes}
+use Rattle.net.specs.File.{headOf, fileOf, fileBytes}
+use Rattle.net.specs.Refusal.{none, refusal, met, netRefusal, answer, writeRefusal, writeAnswer, writeBuffer}
+use Rattle.net.specs.First.{first-of, rest-of}
+
+pub head-length : (n w o : ℕ) → length (headOf n w o) ≡ headBytes
+unfolding headOf
+head-length n w o = refl
+
+module _ (ns ws os : List ℕ) where
+  pub wires-after : length (headOf (length ns) (length ws) (length os) ++ ns) ≡ headBytes + length ns
+  wires-after =
+      rw (length-append (headOf (length ns) (length ws) (length os)) ns, head-length (length ns) (length ws) (length os))
+
+  pub obstacles-after : length (headOf (length ns) (length ws) (length os) ++ ns ++ ws) ≡ headBytes + length ns + length ws
+  obstacles-after = rw (length-append (headOf (length ns) (length ws) (length os) ++ ns) ws, wires-after)
+
+  pub file-length : length (fileOf ns ws os) ≡ fileBytes ns ws os
+  unfolding fileOf
+  file-length = rw (length-append (headOf (length ns) (length ws) (length os) ++ ns ++ ws) os, obstacles-after)
+
+  module _ (lent : ℕ) where
+    -- refused by one of 4 to 11, refused by 16, or not
+    pub write-net : (r : Refusal) → r ≡ netRefusal ns ws os → met r ≡ true → r ≡ writeRefusal ns ws os lent
+    unfolding writeRefusal
+    write-net r q m = first-of _ _ q m
+
+    pub write-lent : (r : Refusal) (needed : ℕ) → r ≡ netRefusal ns ws os → met r ≡ false → needed ≡ fileBytes ns ws os → lent < needed
+        → refusal 16 needed ≡ writeRefusal ns ws os lent
+    unfolding writeRefusal
+    write-lent r needed q m e h = rest-of _ _ q m (rw (← e, lt-ltb lent needed h))
+
+    pub write-done : (r : Refusal) (needed : ℕ) → r ≡ netRefusal ns ws os → met r ≡ false → needed ≡ fileBytes ns ws os → needed ≤ lent
+        → none ≡ writeRefusal ns ws os lent
+    unfolding writeRefusal
+    write-done r needed q m e h = rest-of _ _ q m (rw (← e, le-ltb lent needed h))
+
+    -- what is answered then
+    pub answer-refused : (r : Refusal) → r ≡ writeRefusal ns ws os lent → met r ≡ true → answer r 0 ≡ writeAnswer ns ws os lent
+    unfolding writeAnswer answer
+    answer-refused r q m = rw (← q, m)
+
+    pub answer-done : (needed : ℕ) → needed ≡ fileBytes ns ws os → none ≡ writeRefusal ns ws os lent → answer none needed ≡ writeAnswer ns ws os lent
+    unfolding writeAnswer answer
+    answer-done needed e q = rw (← q, e)
+
+  -- what the lent buffer then holds
+  module _ (out : List ℕ) where
+    pub buffer-refused : (r : Refusal) → r ≡ writeRefusal ns ws os (length out) → met r ≡ true → out ≡ writeBuffer ns ws os out
+    unfolding writeBuffer
+    buffer-refused r q m = rw (← q, m)
+
+    pub buffer-done : none ≡ writeRefusal ns ws os (length out) → over (fileOf ns ws os) out ≡ writeBuffer ns ws os out
+    unfolding writeBuffer
+    buffer-done q = rw (← q, file-length)

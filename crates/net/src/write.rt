@@ -1,0 +1,107 @@
+// The writer: three sections written as one net file.
+use crate::Answer;
+use crate::answers::answered;
+use crate::answers::none;
+use crate::answers::refused;
+use crate::layout::HEAD_BYTES;
+use crate::layout::LENGTH_AT;
+use crate::layout::PAIR_BYTES;
+use crate::layout::PAIR_COUNT;
+use crate::layout::PAIR_COUNT_AT;
+use crate::layout::PAIRS_AT;
+use crate::layout::VERSION;
+use crate::layout::VERSION_AT;
+use crate::read::net_refusal;
+ghost use mathlib.Core.Path.{_≡_};
+ghost use mathlib.Core.List.{_++_};
+ghost use Prim.Native.Nat.{_+_, _<_, _≤_};
+ghost use lib.ListN.{length};
+ghost use Rattle.laws.specs.Bytes.{bytes16, bytes32};
+ghost use Rattle.laws.specs.Lists.{over};
+ghost use Rattle.net.specs.Layout.{headBytes};
+ghost use Rattle.net.specs.File.{headOf, fileOf, fileBytes};
+ghost use Rattle.net.specs.Refusal.{writeAnswer, writeBuffer};
+
+// The file at the start of out, or the first of 4 to 11 and 16, with out as it was.
+pub fn write(nodes: &[u8], wires: &[u8], obstacles: &[u8], out: &mut [u8]) -> Answer
+    ensures { λ r. ⌜ (r ≡ writeAnswer (now (nodes .entry)) (now (wires .entry)) (now (obstacles .entry)) (length (now (out .entry)))) × (now (out .exit) ≡ writeBuffer (now (nodes .entry)) (now (wires .entry)) (now (obstacles .entry)) (now (out .entry))) ⌝ }
+{
+    let r = net_refusal(nodes, wires, obstacles);
+    if r.number != 0 {
+        return answered(r, 0);
+    }
+    let needed = HEAD_BYTES + nodes.len() + wires.len() + obstacles.len();
+    if out.len() < needed {
+        return answered(refused(16, needed as u64), 0);
+    }
+    write_file(nodes, wires, obstacles, out);
+    answered(none(), needed as u64)
+}
+
+// Head, nodes, wires and obstacles, one behind the other.
+fn write_file(nodes: &[u8], wires: &[u8], obstacles: &[u8], out: &mut [u8])
+    requires { ⌜ fileBytes (now nodes) (now wires) (now obstacles) ≤ length (now out) ⌝ }
+    ensures { λ r. ⌜ now (out .exit) ≡ over (fileOf (now (nodes .entry)) (now (wires .entry)) (now (obstacles .entry))) (now (out .entry)) ⌝ }
+{
+    let wires_at = HEAD_BYTES + nodes.len();
+    let obstacles_at = wires_at + wires.len();
+    write_head(nodes.len(), wires.len(), obstacles.len(), out);
+    copy(nodes, &mut out[HEAD_BYTES..]);
+    copy(wires, &mut out[wires_at..]);
+    copy(obstacles, &mut out[obstacles_at..]);
+}
+
+// Version, pair count and the three pairs.
+fn write_head(nodes: usize, wires: usize, obstacles: usize, out: &mut [u8])
+    requires { ⌜ (headBytes ≤ length (now out)) × (headBytes + nodes + wires < 18446744073709551616) ⌝ }
+    ensures { λ r. ⌜ now (out .exit) ≡ over (headOf nodes wires obstacles) (now (out .entry)) ⌝ }
+{
+    let second = PAIRS_AT + PAIR_BYTES;
+    let third = second + PAIR_BYTES;
+    put16(VERSION, &mut out[VERSION_AT..]);
+    put16(PAIR_COUNT, &mut out[PAIR_COUNT_AT..]);
+    put_pair(HEAD_BYTES, nodes, &mut out[PAIRS_AT..]);
+    put_pair(HEAD_BYTES + nodes, wires, &mut out[second..]);
+    put_pair(HEAD_BYTES + nodes + wires, obstacles, &mut out[third..]);
+}
+
+// A number of 16 bits.
+fn put16(number: u16, out: &mut [u8])
+    requires { ⌜ 2 ≤ length (now out) ⌝ }
+    ensures { λ r. ⌜ now (out .exit) ≡ over (bytes16 number) (now (out .entry)) ⌝ }
+{
+    out[0] = (number % 256) as u8;
+    out[1] = (number / 256 % 256) as u8;
+}
+
+// A number of 32 bits.
+fn put32(number: usize, out: &mut [u8])
+    requires { ⌜ 4 ≤ length (now out) ⌝ }
+    ensures { λ r. ⌜ now (out .exit) ≡ over (bytes32 number) (now (out .entry)) ⌝ }
+{
+    out[0] = (number % 256) as u8;
+    out[1] = (number / 256 % 256) as u8;
+    out[2] = (number / 65536 % 256) as u8;
+    out[3] = (number / 16777216 % 256) as u8;
+}
+
+// An offset and, behind it, a length.
+fn put_pair(offset: usize, extent: usize, out: &mut [u8])
+    requires { ⌜ 8 ≤ length (now out) ⌝ }
+    ensures { λ r. ⌜ now (out .exit) ≡ over (bytes32 offset ++ bytes32 extent) (now (out .entry)) ⌝ }
+{
+    put32(offset, out);
+    put32(extent, &mut out[LENGTH_AT..]);
+}
+
+// All of source.
+fn copy(source: &[u8], out: &mut [u8])
+    requires { ⌜ length (now source) ≤ length (now out) ⌝ }
+    ensures { λ r. ⌜ now (out .exit) ≡ over (now (source .entry)) (now (out .entry)) ⌝ }
+{
+    let mut i = 0;
+    while i < source.len() {
+        out[i] = source[i];
+        i += 1;
+    }
+}
