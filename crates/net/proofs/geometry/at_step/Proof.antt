@@ -1,11 +1,9 @@
 -- `net::geometry::at_step` meets its contract. Assumes nothing.
-use Prim.Native.Nat.{ℕ, _<_}
+use Prim.Native.Nat.{ℕ}
 use native.Mathlib.Omega.{arith}
 use mathlib.Core.Path.{_≡_, _∙_, ap}
 use borrow.Author.Needs.{needs}
 use lib.IntN.{ℤ, pos, _+ℤ_, _*ℤ_, natAbs}
-use lib.Signed.{nonNeg}
-use lib.Dec.{T}
 use mir.Syntax.{w16, w32}
 use mir.Val.{Fits, SFits, toZ, ofZ}
 use mir.Facts.{toZ-ofZ, toZ-pos}

@@ -1,11 +1,11 @@
 -- `net::geometry::difference` meets its contract. Assumes nothing.
-use Prim.Native.Nat.{ℕ, _<_}
+use Prim.Native.Nat.{ℕ}
 use native.Mathlib.Omega.{arith}
 use mathlib.Core.Path.{_≡_, _∙_}
 use borrow.Author.Needs.{needs}
 use lib.IntN.{_-ℤ_, subℕ}
 use mir.Syntax.{w16, w32}
-use mir.Val.{Fits, SFits, toZ, ofZ}
+use mir.Val.{Fits, SFits, toZ}
 use mir.Facts.{toZ-ofZ, toZ-pos}
 use Rattle.net.specs.Geometry.{difference-is, difference-fits}
 use Rattle.net.proofs.geometry.difference.Statement.{statement}

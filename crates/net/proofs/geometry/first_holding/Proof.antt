@@ -2,7 +2,7 @@
 use Rattle.net.specs.Net.{obstacleCount, holds}
 use borrow.Author.Count.{below-none, below-more}
 use native.Mathlib.Omega.{arith}
-use mathlib.Core.Bool.{true, false}
+use mathlib.Core.Bool.{false}
 use mathlib.Core.Path.{_≡_, _∙_, sym}
 use Prim.Native.Nat.{ℕ, _-_, _<_, _≤_}
 use borrow.Author.Needs.{needs}

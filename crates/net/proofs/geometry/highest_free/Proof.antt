@@ -1,14 +1,13 @@
 -- `net::geometry::highest_free` meets its contract. Assumes nothing.
-use Rattle.net.specs.Cuttable.{Highest}
-use Rattle.net.specs.Geometry.{Reach, reach-less, heldAt, first-none, leap-down}
+use Rattle.net.specs.Geometry.{reach-less, heldAt, first-none, leap-down}
 use Rattle.net.specs.Net.{obstacleCount, holds}
 use denote.Ref.{now}
 use mir.Facts.{toZ-ofZ}
 use mir.Val.{toZ, ofZ}
 use mir.Syntax.{w32}
 use native.Mathlib.Omega.{arith}
-use mathlib.Core.Bool.{true, false}
-use mathlib.Core.Path.{_≡_, _∙_, sym}
+use mathlib.Core.Bool.{true}
+use mathlib.Core.Path.{_≡_}
 use Prim.Native.Nat.{ℕ, _-_, _<_, _≤_}
 use borrow.Author.Needs.{needs}
 use Rattle.net.proofs.geometry.highest_free.Statement.{statement}

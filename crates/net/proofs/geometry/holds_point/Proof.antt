@@ -1,8 +1,6 @@
 -- `net::geometry::holds_point` meets its contract. Assumes nothing.
-use mathlib.Core.Bool.{_&&_}
-use mathlib.Core.Path.{_∙_, sym, ap}
+use mathlib.Core.Path.{_∙_, sym}
 use Rattle.net.specs.Net.{holds}
-use mathlib.Core.Path.{refl}
 use borrow.Author.Needs.{needs}
 use Rattle.net.proofs.geometry.holds_point.Statement.{statement}
 use Rattle.net.proofs.geometry.holds_point.Tie as tie

@@ -1,8 +1,6 @@
 -- `net::geometry::is_barred` meets its contract. Assumes nothing.
 use Rattle.net.specs.Geometry.{first-any}
-use Rattle.net.specs.Net.{barred, holds, pointX, pointY}
-use lib.Dec.{ltb}
-use mathlib.Core.Path.{_≡_}
+use Rattle.net.specs.Net.{barred, holds}
 use denote.Ref.{now}
 use borrow.Author.Needs.{needs}
 use Rattle.net.proofs.geometry.is_barred.Statement.{statement}

@@ -1,6 +1,5 @@
 -- `net::geometry::length_of` meets its contract. Assumes nothing.
 use denote.Ref.{now}
-use Rattle.net.specs.Net.{nodeX}
 use Prim.Native.Nat.{_+_}
 use native.Mathlib.Omega.{arith}
 use mathlib.Core.Path.{_≡_}

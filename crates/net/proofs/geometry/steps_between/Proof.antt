@@ -6,8 +6,8 @@ use borrow.Author.Needs.{needs}
 use borrow.Author.Tests.{ltb-true, ltb-false}
 use lib.IntN.{ℤ, pos, _-ℤ_, natAbs, subℕ}
 use lib.Signed.{mag}
-use mir.Syntax.{w16, w32}
-use mir.Val.{Fits, SFits, toZ, ofZ}
+use mir.Syntax.{w32}
+use mir.Val.{SFits, toZ, ofZ}
 use mir.Facts.{toZ-ofZ}
 use Rattle.net.specs.Geometry.{difference-read, negative-read, difference-below, difference-above}
 use Rattle.net.proofs.geometry.steps_between.Statement.{statement}

@@ -1,7 +1,5 @@
 -- `net::geometry::within` meets its contract. Assumes nothing.
 use borrow.Author.Tests.{le-leb, lt-leb}
-use mathlib.Core.Path.{refl}
-use borrow.Author.Needs.{needs}
 use Rattle.net.proofs.geometry.within.Statement.{statement}
 use Rattle.net.proofs.geometry.within.Tie as tie
 
