@@ -1,3 +1,4 @@
+pub mod Record
 pub mod Entries
 pub mod EntriesOfWire
 pub mod Promise

@@ -1,1 +1,2 @@
 // The piece report: the jumper list checked, the pieces gathered wire by wire, their records written.
+pub mod record;
