@@ -1,7 +1,5 @@
 pub mod Layout
 pub mod Net
-pub mod Cuttable
-pub mod Geometry
 pub mod Stage
 pub mod Refusal
 pub mod Call

@@ -1,0 +1,39 @@
+-- `net::geometry::is_barred` meets its contract. Assumes nothing.
+use Rattle.points.specs.Geometry.{first-any}
+use Rattle.net.specs.Net.{barred, holds}
+use denote.Ref.{now}
+use borrow.Author.Needs.{needs}
+use Rattle.points.proofs.is_barred.Statement.{statement}
+use Rattle.points.proofs.is_barred.Tie as tie
+
+point-x-requires : tie.Need-point-x-requires
+point-x-requires c κs = search needs
+
+point-y-requires : tie.Need-point-y-requires
+point-y-requires c κs = search needs
+
+first-holding-requires : tie.Need-first-holding-requires
+first-holding-requires c κs = search needs
+
+obstacle-count-requires : tie.Need-obstacle-count-requires
+obstacle-count-requires c κs = search needs
+
+returns : tie.Need-returns
+unfolding barred
+returns c =
+    let a = c .before .before .before .before .before .before .before .args in
+    let x = c .before .before .before .point-x in
+    let y = c .before .before .point-y in
+    let f = c .before .first-holding in
+    rw (c .obstacle-count .ensures, ← x .ensures, ← y .ensures)
+    (first-any _ (f .result) (λ k. holds (now (a .obstacles)) k (x .result) (y .result)) (f .ensures .1) (f .ensures .2))
+
+pub is-barred-spec : {M : Type 1} → statement M
+is-barred-spec =
+    tie.close
+    (tie.spec
+    point-x-requires
+    point-y-requires
+    first-holding-requires
+    obstacle-count-requires
+    returns)

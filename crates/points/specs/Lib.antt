@@ -1,0 +1,2 @@
+pub mod Cuttable
+pub mod Geometry
