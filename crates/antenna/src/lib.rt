@@ -1,7 +1,8 @@
 // The public calls of the desk as C exports. Each takes any input and carries the whole promise of the call behind it.
 use net::Answer;
 ghost use mathlib.Core.Path.{_≡_};
-ghost use Rattle.net.specs.Refusal.{readAnswer};
+ghost use lib.ListN.{length};
+ghost use Rattle.net.specs.Refusal.{readAnswer, writeAnswer, writeBuffer};
 
 // Reads a net file alone: 2 to 11, or the number of nodes.
 #[no_mangle]
@@ -9,4 +10,17 @@ pub extern "C" fn antenna_read(file: &[u8]) -> Answer
     ensures { λ r. ⌜ r ≡ readAnswer (now (file .entry)) ⌝ }
 {
     net::read::read(file)
+}
+
+// Writes the net file of three sections: 4 to 11, 16, or the number of bytes written.
+#[no_mangle]
+pub extern "C" fn antenna_write(
+    nodes: &[u8],
+    wires: &[u8],
+    obstacles: &[u8],
+    out: &mut [u8],
+) -> Answer
+    ensures { λ r. ⌜ (r ≡ writeAnswer (now (nodes .entry)) (now (wires .entry)) (now (obstacles .entry)) (length (now (out .entry)))) × (now (out .exit) ≡ writeBuffer (now (nodes .entry)) (now (wires .entry)) (now (obstacles .entry)) (now (out .entry))) ⌝ }
+{
+    net::write::write(nodes, wires, obstacles, out)
 }
