@@ -3,6 +3,7 @@ pub mod Sums
 pub mod Tree
 pub mod Bytes
 pub mod Lists
+pub mod Numbers
 pub mod Gather
 pub mod Gathers
 pub mod Masks

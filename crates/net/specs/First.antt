@@ -106,6 +106,11 @@ module _ (f : ℕ → Refusal) where
   pub first-all : (n i : ℕ) → i ≡ n → none ≡ firstOf i f → none ≡ firstOf n f
   first-all n i q e = rw (← q) e
 
+  pub first-none : (n : ℕ) → ((i : ℕ) → i < n → none ≡ f i) → none ≡ firstOf n f
+  unfolding firstOf
+  first-none zero h = refl
+  first-none (suc n) h = rw (← first-none n (λ i l. h i (omega arith))) (h n (omega arith))
+
 -- the same for records that are numbered from 1
 module _ (g : ℕ → Refusal) where
   back : (i : ℕ) → 0 < i → i - 1 + 1 ≡ i

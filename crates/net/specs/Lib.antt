@@ -8,3 +8,6 @@ pub mod First
 pub mod Reading
 pub mod Writing
 pub mod Accepted
+pub mod AcceptedIf
+pub mod Parts
+pub mod RoundTrip
