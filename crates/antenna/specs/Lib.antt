@@ -1,2 +1,3 @@
 pub mod Repair
 pub mod Exactly
+pub mod Excluded
