@@ -4,5 +4,7 @@ pub mod CloseSums
 pub mod CloseCutting
 pub mod CloseEndings
 pub mod CountFrame
+pub mod Climb
+pub mod ClimbLaws
 pub mod Scan
 pub mod ScanLaws

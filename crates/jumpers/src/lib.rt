@@ -1,3 +1,4 @@
 // The code of repair: cuttable points, clusters, the pass down, the pass up, the jumper list.
+mod climb;
 mod close;
 mod scan;
