@@ -6,7 +6,7 @@ use mathlib.Core.Bool.{Bool, true, false, not, _&&_}
 use mathlib.Core.List.{List}
 use lib.Dec.{leb, ltb}
 use Rattle.net.specs.Net.{wireFactor, wireLength, barred}
-use Rattle.net.specs.Cuttable.{Checked}
+use Rattle.points.specs.Cuttable.{Checked}
 use Rattle.cuts.specs.Cluster.{Clusters}
 use Rattle.cuts.specs.Passes.{Down, Climbed}
 

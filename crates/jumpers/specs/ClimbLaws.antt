@@ -10,7 +10,7 @@ use lib.Dec.{leb, ltb}
 use borrow.Author.Tests.{leb-true, ltb-true, le-leb, lt-ltb, lt-leb, not-true}
 use Rattle.laws.specs.Sums.{by, no-both, and-left, and-right}
 use Rattle.net.specs.Net.{wireFactor, wireLength, barred}
-use Rattle.net.specs.Cuttable.{Checked, Highest}
+use Rattle.points.specs.Cuttable.{Checked, Highest}
 use Rattle.cuts.specs.Passes.{Climbed, without-gate, within-limit, with-jumper}
 use Rattle.jumpers.specs.Climb.{openAt, Branch, stretchWeight, LastWithin, wireOf, climbingOf}
 

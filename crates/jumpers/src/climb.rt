@@ -1,7 +1,7 @@
 // Climbing a branch's wire in the pass down: what the branch then adds to its host, with a jumper of its own where it must.
 use crate::close::Closing;
-use net::geometry::highest_cuttable;
 use net::records::wire_factor;
+use points::highest_cuttable;
 ghost use mathlib.Core.Path.{_≡_};
 ghost use Prim.Native.Nat.{_+_, _*_, _<_, _≤_};
 ghost use lib.ListN.{length};

@@ -3,7 +3,7 @@
 use Prim.Native.Nat.{ℕ}
 use mathlib.Core.Path.{refl}
 use native.Mathlib.Omega.{arith}
-use Rattle.net.specs.Geometry.{length-small}
+use Rattle.points.specs.Geometry.{length-small}
 use Rattle.jumpers.specs.ClimbLaws.{open-high, climbs-light, climbs-ungated, climbs-within, climbs-jumper}
 use Rattle.jumpers.proofs.climb.climb.Statement.{statement}
 use Rattle.jumpers.proofs.climb.climb.Tie as tie

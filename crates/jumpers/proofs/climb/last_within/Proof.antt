@@ -2,7 +2,7 @@
 -- Assumes nothing.
 use Prim.Native.Nat.{ℕ, _/_}
 use native.Mathlib.Omega.{arith}
-use Rattle.net.specs.Geometry.{length-small}
+use Rattle.points.specs.Geometry.{length-small}
 use Rattle.jumpers.specs.ClimbLaws.{open-high, steps-inside, last-within}
 use Rattle.jumpers.proofs.climb.last_within.Statement.{statement}
 use Rattle.jumpers.proofs.climb.last_within.Tie as tie
