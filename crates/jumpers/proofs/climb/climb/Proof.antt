@@ -7,10 +7,6 @@ use Rattle.points.specs.Geometry.{length-small}
 use Rattle.jumpers.specs.ClimbLaws.{open-high, climbs-light, climbs-ungated, climbs-within, climbs-jumper}
 use Rattle.jumpers.proofs.climb.climb.Statement.{statement}
 use Rattle.jumpers.proofs.climb.climb.Tie as tie
-use Rattle.jumpers.proofs.climb.climb.Reads as reads
-use Rattle.jumpers.proofs.climb.climb.Lts as lts
-use Rattle.jumpers.proofs.climb.last_within.Reads as last-within-reads
-use Rattle.jumpers.proofs.climb.stretch_weight.Reads as stretch-weight-reads
 
 stretch-weight-requires : tie.Need-stretch-weight-requires
 stretch-weight-requires c κs =

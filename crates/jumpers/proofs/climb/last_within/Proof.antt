@@ -6,10 +6,6 @@ use Rattle.points.specs.Geometry.{length-small}
 use Rattle.jumpers.specs.ClimbLaws.{open-high, steps-inside, last-within}
 use Rattle.jumpers.proofs.climb.last_within.Statement.{statement}
 use Rattle.jumpers.proofs.climb.last_within.Tie as tie
-use Rattle.jumpers.proofs.climb.last_within.Reads as reads
-use Rattle.jumpers.proofs.climb.last_within.Lts as lts
-use Rattle.jumpers.proofs.climb.weight_of_step.Reads as weight-of-step-reads
-use Rattle.net.proofs.geometry.highest_cuttable.Reads as highest-cuttable-reads
 
 sub-steps : tie.Need-sub-steps
 sub-steps c = omega arith

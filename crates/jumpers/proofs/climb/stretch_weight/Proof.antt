@@ -6,9 +6,6 @@ use native.Mathlib.Omega.{arith}
 use native.Mathlib.Nat.{mul-le-mul}
 use Rattle.jumpers.proofs.climb.stretch_weight.Statement.{statement}
 use Rattle.jumpers.proofs.climb.stretch_weight.Tie as tie
-use Rattle.jumpers.proofs.climb.stretch_weight.Reads as reads
-use Rattle.jumpers.proofs.climb.stretch_weight.Lts as lts
-use Rattle.jumpers.proofs.climb.weight_of_step.Reads as weight-of-step-reads
 
 weight-of-step-requires : tie.Need-weight-of-step-requires
 weight-of-step-requires c κs = omega arith
