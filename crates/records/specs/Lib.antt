@@ -1,4 +1,5 @@
 pub mod Record
 pub mod Entries
+pub mod EntriesChecked
 pub mod EntriesOfWire
 pub mod Promise

@@ -1,0 +1,141 @@
+-- Which refusal each test of a jumper list shows.
+-- Assumes nothing.
+use Prim.Native.Nat.{ℕ, _-_, _%_, _<_, _≤_}
+use mathlib.Core.Path.{_≡_, refl, sym}
+use mathlib.Core.Bool.{Bool, true, false, not, _&&_, _||_}
+use mathlib.Core.List.{List}
+use native.Mathlib.Omega.{arith}
+use lib.ListN.{length}
+use lib.Dec.{leb, ltb, eqb}
+use borrow.Author.Tests.{ltb-true, lt-ltb, le-ltb, lt-leb, le-leb, eq-eqb, ne-eqb}
+use Rattle.laws.specs.Sums.{and-left, and-right}
+use Rattle.net.specs.Layout.{entryBytes}
+use Rattle.net.specs.declared.Refusal.{Refusal}
+use Rattle.net.specs.Net.{nodeCount, wireLayer, wireLength, barred}
+use Rattle.net.specs.Stage.{Stage, stageOf}
+use Rattle.net.specs.Refusal.{none, refusal, met, refusedIf, orElse, firstOf, netRefusal}
+use Rattle.net.specs.First.{none-if, none-or}
+use Rattle.points.specs.Cuttable.{Checked}
+use Rattle.net.specs.Accepted.{net-right}
+use Rattle.points.specs.Geometry.{checked-of}
+use Rattle.pieces.specs.Legal.{entryWire, entryPosition}
+use Rattle.pieces.specs.JumperList.{entryCount, after, entryRefusal, listRefusal}
+
+-- each wire of the net is checked
+abbrev pub WiresChecked : List ℕ → List ℕ → Type 0
+WiresChecked ns ws = (i : ℕ) → 0 < i → i < nodeCount ns → Checked ns ws i
+
+pub wires-checked : (ns ws os : List ℕ) → netRefusal ns ws os ≡ none → WiresChecked ns ws
+wires-checked ns ws os r i p h = checked-of (net-right ns ws os r) i p h
+
+-- there is a wire i, stage k has it, and position t lies inside it
+unfoldable pub liesInside : List ℕ → List ℕ → ℕ → ℕ → ℕ → Bool
+liesInside ns ws k i t = (ltb 0 i && (ltb i (nodeCount ns) && leb (wireLayer ws i) k)) && (leb 1 t && ltb t (wireLength ns ws i))
+
+-- an entry stands after the one before: each test after those before it
+module _ (list : List ℕ) (e : ℕ) where
+  pub after-none : e ≡ 0 → true ≡ (eqb e 0 || after list (e - 1) e)
+  after-none z = rw (eq-eqb _ _ z)
+
+  module _ (n : e ≡ 0 → ⊥) where
+    pub after-higher : entryWire list (e - 1) < entryWire list e → true ≡ (eqb e 0 || after list (e - 1) e)
+    unfolding after
+    after-higher h = rw (ne-eqb _ _ n, lt-ltb _ _ h)
+
+    pub after-lower : entryWire list e < entryWire list (e - 1) → false ≡ (eqb e 0 || after list (e - 1) e)
+    unfolding after
+    after-lower h =
+        let m : entryWire list (e - 1) ≡ entryWire list e → ⊥ = λ q. omega arith in
+        let l : entryWire list e ≤ entryWire list (e - 1) = omega arith in
+        rw (ne-eqb _ _ n, le-ltb _ _ l, ne-eqb _ _ m)
+
+    pub after-same : entryWire list (e - 1) ≡ entryWire list e
+        → ltb (entryPosition list (e - 1)) (entryPosition list e) ≡ (eqb e 0 || after list (e - 1) e)
+    unfolding after
+    after-same q =
+        let l : entryWire list e ≤ entryWire list (e - 1) = omega arith in
+        rw (ne-eqb _ _ n, le-ltb _ _ l, eq-eqb _ _ q)
+
+-- a position lies inside a wire: each test after those before it
+module _ (ns ws : List ℕ) (k i t : ℕ) where
+  pub lies-zero : i ≡ 0 → false ≡ liesInside ns ws k i t
+  unfolding liesInside
+  lies-zero z = let l : i ≤ 0 = omega arith in rw (le-ltb _ _ l)
+
+  module _ (a : 0 < i) where
+    pub lies-no-wire : nodeCount ns ≤ i → false ≡ liesInside ns ws k i t
+    unfolding liesInside
+    lies-no-wire h = rw (lt-ltb _ _ a, le-ltb _ _ h)
+
+    module _ (b : i < nodeCount ns) where
+      pub lies-absent : k < wireLayer ws i → false ≡ liesInside ns ws k i t
+      unfolding liesInside
+      lies-absent h = rw (lt-ltb _ _ a, lt-ltb _ _ b, lt-leb _ _ h)
+
+      module _ (c : wireLayer ws i ≤ k) where
+        pub lies-at-node : t ≡ 0 → false ≡ liesInside ns ws k i t
+        unfolding liesInside
+        lies-at-node z = let l : t < 1 = omega arith in rw (lt-ltb _ _ a, lt-ltb _ _ b, le-leb _ _ c, lt-leb _ _ l)
+
+        pub lies-below : 0 < t → ltb t (wireLength ns ws i) ≡ liesInside ns ws k i t
+        unfolding liesInside
+        lies-below h = let l : 1 ≤ t = omega arith in rw (lt-ltb _ _ a, lt-ltb _ _ b, le-leb _ _ c, le-leb _ _ l)
+
+-- where it lies inside, there is such a wire
+module _ (ns ws : List ℕ) (k i t : ℕ) (h : true ≡ liesInside ns ws k i t) where
+  lies-left : (ltb 0 i && (ltb i (nodeCount ns) && leb (wireLayer ws i) k)) ≡ true
+  unfolding liesInside
+  lies-left = and-left _ (leb 1 t && ltb t (wireLength ns ws i)) (sym h)
+
+  pub lies-positive : 0 < i
+  lies-positive = ltb-true _ _ (and-left (ltb 0 i) (ltb i (nodeCount ns) && leb (wireLayer ws i) k) lies-left)
+
+  pub lies-node : i < nodeCount ns
+  lies-node =
+      ltb-true _ _ (and-left (ltb i (nodeCount ns)) (leb (wireLayer ws i) k) (and-right (ltb 0 i) (ltb i (nodeCount ns) && leb (wireLayer ws i) k) lies-left))
+
+  pub lies-within : t ≤ wireLength ns ws i
+  unfolding liesInside
+  lies-within =
+      let p = ltb 0 i && (ltb i (nodeCount ns) && leb (wireLayer ws i) k) in
+      let l = ltb-true t (wireLength ns ws i) (and-right (leb 1 t) (ltb t (wireLength ns ws i)) (and-right p (leb 1 t && ltb t (wireLength ns ws i)) (sym h))) in
+      omega arith
+
+-- an entry: each test after those before it
+module _ (ns ws os : List ℕ) (k : ℕ) (list : List ℕ) (e : ℕ) where
+  pub entry-not-after : false ≡ (eqb e 0 || after list (e - 1) e) → refusal 12 e ≡ entryRefusal (stageOf ns ws os k) list e
+  unfolding entryRefusal
+  entry-not-after h = rw (← h)
+
+  module _ (a : true ≡ (eqb e 0 || after list (e - 1) e)) where
+    pub entry-outside : false ≡ liesInside ns ws k (entryWire list e) (entryPosition list e) → refusal 13 e ≡ entryRefusal (stageOf ns ws os k) list e
+    unfolding entryRefusal stageOf liesInside
+    entry-outside h = rw (← a, ← h)
+
+    module _ (b : true ≡ liesInside ns ws k (entryWire list e) (entryPosition list e)) where
+      pub entry-barred : true ≡ barred ns ws os (entryWire list e) (entryPosition list e) → refusal 14 e ≡ entryRefusal (stageOf ns ws os k) list e
+      unfolding entryRefusal stageOf liesInside
+      entry-barred h = rw (← a, ← b, ← h)
+
+      pub entry-right : false ≡ barred ns ws os (entryWire list e) (entryPosition list e) → none ≡ entryRefusal (stageOf ns ws os k) list e
+      unfolding entryRefusal stageOf liesInside
+      entry-right h = rw (← a, ← b, ← h)
+
+-- a list: its length, then each entry
+module _ (s : Stage) (list : List ℕ) where
+  pub list-not-threes : (length list % entryBytes ≡ 0 → ⊥) → refusal 12 0 ≡ listRefusal s list
+  unfolding listRefusal
+  list-not-threes n = rw (ne-eqb _ _ n)
+
+  pub entry-none : (e : ℕ) → met (entryRefusal s list e) ≡ false → none ≡ entryRefusal s list e
+  unfolding entryRefusal
+  entry-none e u =
+      let r12 = refusedIf (not (eqb e 0 || after list (e - 1) e)) 12 e in
+      let r13 = refusedIf (not (s .present (entryWire list e) && (leb 1 (entryPosition list e) && ltb (entryPosition list e) (s .len (entryWire list e))))) 13 e in
+      let b = s .barred (entryWire list e) (entryPosition list e) in
+      none-or r12 (orElse r13 (refusedIf b 14 e)) (none-or r13 (refusedIf b 14 e) (none-if b 14 e refl)) u
+
+  module _ (a : length list % entryBytes ≡ 0) where
+    pub list-entries : {r : Refusal} → r ≡ firstOf (entryCount list) (λ e. entryRefusal s list e) → r ≡ listRefusal s list
+    unfolding listRefusal
+    list-entries h = rw (eq-eqb _ _ a) h
