@@ -2,12 +2,12 @@
 use net::Refusal;
 use net::answers::none;
 use net::answers::refused;
-use points::is_barred;
-use points::length_of;
 use net::layout::ENTRY_BYTES;
 use net::records::node_count;
 use net::records::u16_at;
 use net::records::wire_layer;
+use points::is_barred;
+use points::length_of;
 ghost use mathlib.Core.Path.{_≡_};
 ghost use mathlib.Core.Bool.{_||_};
 ghost use Prim.Native.Nat.{_-_, _<_};
