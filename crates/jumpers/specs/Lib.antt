@@ -8,3 +8,5 @@ pub mod Climb
 pub mod ClimbLaws
 pub mod Scan
 pub mod ScanLaws
+pub mod ScanEnds
+pub mod ScanWeights

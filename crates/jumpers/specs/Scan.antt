@@ -10,6 +10,8 @@ use lib.Dec.{leb, ltb, eqb}
 use Rattle.laws.specs.Sum.{χ, sum, any}
 use Rattle.net.specs.Layout.{wireBytes, mostNodes}
 use Rattle.net.specs.Net.{nodeCount, nodeX, nodeY, nodeFlags, isGate, isSource, wireParent, wireLayer, wireFactor, wireLength}
+use Rattle.net.specs.Stage.{Stage}
+use Rattle.cuts.specs.Fits.{freeAt}
 
 -- what reading a net has checked, as far as these passes use it
 pub record Wired (ns ws : List ℕ) : Type 0 where
@@ -17,6 +19,28 @@ pub record Wired (ns ws : List ℕ) : Type 0 where
   pub stored : (i : ℕ) → i < nodeCount ns → wireBytes * i ≤ length ws
   pub below : (i : ℕ) → 0 < i → i < nodeCount ns → wireParent ws i < i
   pub straight : (i : ℕ) → 0 < i → i < nodeCount ns → (nodeX ns i ≡ nodeX ns (wireParent ws i)) ⊎ (nodeY ns i ≡ nodeY ns (wireParent ws i))
+
+-- r is the lowest position of wire i that may be cut, or 0 where there is none
+pub record LowestFree (s : Stage) (i r : ℕ) : Type 0 where
+  pub free : 0 < r → freeAt s i r ≡ true
+  pub some : (t : ℕ) → freeAt s i t ≡ true → 0 < r
+  pub least : (t : ℕ) → freeAt s i t ≡ true → r ≤ t
+
+-- r is the highest one
+pub record HighestFree (s : Stage) (i r : ℕ) : Type 0 where
+  pub free : 0 < r → freeAt s i r ≡ true
+  pub most : (t : ℕ) → freeAt s i t ≡ true → t ≤ r
+
+-- lo and hi have them for each wire
+pub record Ends (s : Stage) (lo hi : List ℕ) : Type 0 where
+  pub low : (i : ℕ) → i < s .nodes → LowestFree s i (getD lo i 0)
+  pub high : (i : ℕ) → i < s .nodes → HighestFree s i (getD hi i 0)
+
+-- the positions in lo and hi lie on their wires
+pub record Inside (ns ws lo hi : List ℕ) : Type 0 where
+  pub wire : (i : ℕ) → i < nodeCount ns → 0 < getD lo i 0 → 0 < i
+  pub low : (i : ℕ) → i < nodeCount ns → 0 < getD lo i 0 → getD lo i 0 ≤ wireLength ns ws i
+  pub high : (i : ℕ) → i < nodeCount ns → 0 < getD lo i 0 → getD hi i 0 ≤ wireLength ns ws i
 
 -- wire i is present at stage k
 abbrev pub made : List ℕ → ℕ → ℕ → Bool

@@ -33,11 +33,14 @@ cuttable-positive lo e i h =
     (λ n. let d = eqb-false i 0 n in omega arith)
 
 -- ---- an array that is filled from below
-pub filled-more : (i v : ℕ) (f : ℕ → ℕ) (l : List ℕ) → i < length l → v ≡ f i → ((j : ℕ) → j < i → getD l j 0 ≡ f j) → (j : ℕ) → j < i + 1 → getD (set l i v) j 0 ≡ f j
-filled-more i v f l p e h j q =
+pub filled-all : (P : ℕ → ℕ → Type 0) (i v : ℕ) (l : List ℕ) → i < length l → P i v → ((j : ℕ) → j < i → P j (getD l j 0)) → (j : ℕ) → j < i + 1 → P j (getD (set l i v) j 0)
+filled-all P i v l p e h j q =
     by (eqb j i)
-    (λ y. let s = eqb-true j i y in rw s (getD-set-same l i v 0 p ∙ e))
-    (λ n. let d = eqb-false j i n in getD-set-other l i j v 0 d ∙ h j (omega arith))
+    (λ y. let s = eqb-true j i y in rw (s, getD-set-same l i v 0 p) e)
+    (λ n. let d = eqb-false j i n in rw (getD-set-other l i j v 0 d) (h j (omega arith)))
+
+pub filled-more : (i v : ℕ) (f : ℕ → ℕ) (l : List ℕ) → i < length l → v ≡ f i → ((j : ℕ) → j < i → getD l j 0 ≡ f j) → (j : ℕ) → j < i + 1 → getD (set l i v) j 0 ≡ f j
+filled-more i v f l p e h = filled-all (λ j x. x ≡ f j) i v l p e h
 
 -- ---- an array of the nodes that nodes lead to
 module _ (joined : ℕ → Bool) (parent : ℕ → ℕ) where

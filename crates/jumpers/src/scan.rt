@@ -3,15 +3,20 @@ use net::records::is_gate;
 use net::records::is_source;
 use net::records::node_count;
 use net::records::node_flags;
+use net::records::wire_factor;
 use net::records::wire_layer;
 use net::records::wire_parent;
+use points::highest_cuttable;
+use points::length_of;
+use points::lowest_cuttable;
 ghost use mathlib.Core.Path.{_≡_};
 ghost use mathlib.Core.Bool.{Bool, true, false};
 ghost use Prim.Native.Nat.{ℕ, _+_, _*_, _<_, _≤_};
 ghost use lib.ListN.{length, getD};
 ghost use Rattle.net.specs.Layout.{wireBytes};
-ghost use Rattle.net.specs.Net.{nodeCount, wireParent};
-ghost use Rattle.jumpers.specs.Scan.{Wired, made, cuttable, whole, leader, Leads, Falling, hostOf, sourceIn, gateOf, gathered};
+ghost use Rattle.net.specs.Net.{nodeCount, wireParent, wireLength};
+ghost use Rattle.net.specs.Stage.{stageOf};
+ghost use Rattle.jumpers.specs.Scan.{Wired, LowestFree, HighestFree, Ends, Inside, made, cuttable, whole, leader, Leads, Falling, hostOf, sourceIn, gateOf, gathered, lowerWeight, upperWeight};
 
 // Wire i is present at the stage.
 fn is_made(wires: &[u8], stage: u8, i: usize) -> bool
@@ -22,6 +27,53 @@ fn is_made(wires: &[u8], stage: u8, i: usize) -> bool
         return false;
     }
     wire_layer(wires, i) <= stage
+}
+
+// The lowest position of wire i that may be cut, or 0 where there is none.
+fn lowest_of(nodes: &[u8], wires: &[u8], obstacles: &[u8], stage: u8, i: usize) -> u64
+    requires { ⌜ Wired (now nodes) (now wires) × (i < nodeCount (now nodes)) ⌝ }
+    ensures { λ r. ⌜ LowestFree (stageOf (now (nodes .entry)) (now (wires .entry)) (now (obstacles .entry)) stage) i r ⌝ }
+{
+    if is_made(wires, stage, i) {
+        return lowest_cuttable(nodes, wires, obstacles, i, 1) as u64;
+    }
+    0
+}
+
+// The highest one.
+fn highest_of(nodes: &[u8], wires: &[u8], obstacles: &[u8], stage: u8, i: usize) -> u64
+    requires { ⌜ Wired (now nodes) (now wires) × (i < nodeCount (now nodes)) ⌝ }
+    ensures { λ r. ⌜ HighestFree (stageOf (now (nodes .entry)) (now (wires .entry)) (now (obstacles .entry)) stage) i r ⌝ }
+{
+    if is_made(wires, stage, i) {
+        let length = length_of(nodes, wires, i);
+        if 0 < length {
+            return highest_cuttable(nodes, wires, obstacles, i, length - 1) as u64;
+        }
+    }
+    0
+}
+
+// The lowest and the highest position of each wire that may be cut.
+pub fn find_cuttable(
+    nodes: &[u8],
+    wires: &[u8],
+    obstacles: &[u8],
+    stage: u8,
+    lo: &mut [u64],
+    hi: &mut [u64],
+)
+    requires { ⌜ Wired (now nodes) (now wires) ⌝ }
+    requires { ⌜ (nodeCount (now nodes) ≤ length (now lo)) × (nodeCount (now nodes) ≤ length (now hi)) ⌝ }
+    ensures { λ _. ⌜ Ends (stageOf (now (nodes .entry)) (now (wires .entry)) (now (obstacles .entry)) stage) (now (lo .exit)) (now (hi .exit)) ⌝ }
+{
+    let n = node_count(nodes);
+    let mut i: usize = 0;
+    while i < n {
+        lo[i] = lowest_of(nodes, wires, obstacles, stage, i);
+        hi[i] = highest_of(nodes, wires, obstacles, stage, i);
+        i += 1;
+    }
 }
 
 // The root of node i's cluster, where lower nodes have theirs.
@@ -153,6 +205,65 @@ pub fn count_gates(
         gates[i] = 0;
         let r = root[i];
         gates[r] += gate_of(nodes, component, sourced, i);
+        i += 1;
+    }
+}
+
+// What wire i gives to the cluster at its lower end.
+fn lower_weight(nodes: &[u8], wires: &[u8], stage: u8, lo: &[u64], i: usize) -> u64
+    requires { ⌜ Wired (now nodes) (now wires) × (i < nodeCount (now nodes)) × (i < length (now lo)) ⌝ }
+    requires { ⌜ (0 < getD (now lo) i 0 → getD (now lo) i 0 ≤ wireLength (now nodes) (now wires) i) ⌝ }
+    ensures { λ r. ⌜ r ≡ lowerWeight (now (nodes .entry)) (now (wires .entry)) stage (now (lo .entry)) i ⌝ }
+{
+    if is_made(wires, stage, i) {
+        let factor = wire_factor(wires, i) as u64;
+        if 0 < lo[i] {
+            return lo[i] * factor;
+        }
+        return (length_of(nodes, wires, i) as u64) * factor;
+    }
+    0
+}
+
+// And to the cluster at its upper end.
+fn upper_weight(nodes: &[u8], wires: &[u8], lo: &[u64], hi: &[u64], i: usize) -> u64
+    requires { ⌜ Wired (now nodes) (now wires) × (i < nodeCount (now nodes)) × (i < length (now lo)) × (i < length (now hi)) ⌝ }
+    requires { ⌜ (0 < getD (now lo) i 0 → 0 < i) × (0 < getD (now lo) i 0 → getD (now hi) i 0 ≤ wireLength (now nodes) (now wires) i) ⌝ }
+    ensures { λ r. ⌜ r ≡ upperWeight (now (nodes .entry)) (now (wires .entry)) (now (lo .entry)) (now (hi .entry)) i ⌝ }
+{
+    if 0 < lo[i] {
+        let above = (length_of(nodes, wires, i) as u64) - hi[i];
+        return above * (wire_factor(wires, i) as u64);
+    }
+    0
+}
+
+// The weight that no cut takes away from each cluster.
+pub fn weigh_clusters(
+    nodes: &[u8],
+    wires: &[u8],
+    stage: u8,
+    lo: &[u64],
+    hi: &[u64],
+    root: &[usize],
+    host: &[usize],
+    fixed: &mut [u64],
+)
+    requires { ⌜ Wired (now nodes) (now wires) × Inside (now nodes) (now wires) (now lo) (now hi) ⌝ }
+    requires { ⌜ (nodeCount (now nodes) ≤ length (now lo)) × (nodeCount (now nodes) ≤ length (now hi)) × (nodeCount (now nodes) ≤ length (now root)) × (nodeCount (now nodes) ≤ length (now host)) × (nodeCount (now nodes) ≤ length (now fixed)) ⌝ }
+    requires { ⌜ Falling (nodeCount (now nodes)) (now root) × Falling (nodeCount (now nodes)) (now host) ⌝ }
+    ensures { λ _. ⌜ ((r : ℕ) → r < nodeCount (now (nodes .entry)) → getD (now (fixed .exit)) r 0
+        ≡ gathered (nodeCount (now (nodes .entry))) (now (root .entry)) (lowerWeight (now (nodes .entry)) (now (wires .entry)) stage (now (lo .entry))) r
+        + gathered (nodeCount (now (nodes .entry))) (now (host .entry)) (upperWeight (now (nodes .entry)) (now (wires .entry)) (now (lo .entry)) (now (hi .entry))) r) ⌝ }
+{
+    let n = node_count(nodes);
+    let mut i: usize = 0;
+    while i < n {
+        fixed[i] = 0;
+        let r = root[i];
+        fixed[r] += lower_weight(nodes, wires, stage, lo, i);
+        let h = host[i];
+        fixed[h] += upper_weight(nodes, wires, lo, hi, i);
         i += 1;
     }
 }
