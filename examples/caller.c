@@ -3,9 +3,9 @@
 
 #include "antenna.h"
 
-/* Net A as a file: a wire of 13 steps between two gates. */
-static uint8_t file[] = {1,  0, 3, 0, 28, 0, 0, 0, 10, 0, 0, 0,  38, 0, 0, 0, 3, 0, 0, 0, 41, 0,
-                         0,  0, 0, 0, 0,  0, 0, 0, 0,  0, ANTENNA_GATE, 13, 0, 0, 0, ANTENNA_GATE, 0, 1, 1};
+/* Net A: a wire of 13 steps between two gates. */
+static const uint8_t nodes[] = {0, 0, 0, 0, 1, 13, 0, 0, 0, 1};
+static const uint8_t wires[] = {0, 1, 1};
 
 static void print(const char *call, antenna_answer answer) {
     printf("%s: number %u, place %llu, count %llu\n", call, (unsigned)answer.number,
@@ -13,10 +13,21 @@ static void print(const char *call, antenna_answer answer) {
 }
 
 int main(void) {
-    print("read", antenna_read(file, sizeof file));
-    print("read, a byte less", antenna_read(file, sizeof file - 1));
+    uint8_t file[64];
+    for (size_t i = 0; i < sizeof file; i++) file[i] = 0xa5;
+
+    print("write, 40 bytes lent", antenna_write(nodes, sizeof nodes, wires, sizeof wires, NULL, 0, file, 40));
+    antenna_answer written = antenna_write(nodes, sizeof nodes, wires, sizeof wires, NULL, 0, file, sizeof file);
+    print("write", written);
+    printf("file:");
+    for (size_t i = 0; i < sizeof file; i++) printf(" %u", file[i]);
+    printf("\n");
+
+    print("read", antenna_read(file, written.count));
+    print("read, a byte more", antenna_read(file, written.count + 1));
     print("read, nothing", antenna_read(NULL, 0));
-    file[37] = 4;
-    print("read, flags of node 1 over 3", antenna_read(file, sizeof file));
+    file[32] = 4;
+    print("read, flags of node 0 over 3", antenna_read(file, written.count));
+    file[32] = 1;
     return 0;
 }

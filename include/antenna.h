@@ -6,12 +6,15 @@
  * in the bytes are unsigned and little-endian.
  *
  * Ownership: the library keeps nothing and allocates nothing. What is lent
- * belongs to the caller and is used only during the call.
+ * belongs to the caller and is used only during the call. The buffer `out`
+ * must overlap none of the other slices.
  *
- * Threads: the calls share no state; any number may run at once.
+ * Threads: the calls share no state; any number may run at once, as long as
+ * each has a buffer `out` of its own.
  *
  * Any bytes are taken: a file that is wrong is refused by the number of the
- * first condition it meets.
+ * first condition it meets. After a refusal `out` holds what it held before;
+ * after success so does every byte behind what was written.
  */
 #ifndef ANTENNA_H
 #define ANTENNA_H
@@ -38,7 +41,8 @@ enum {
     ANTENNA_WIRE_PARENT = 8,       /* parent not below the wire's own number: the wire */
     ANTENNA_WIRE_RANGE = 9,        /* layer not 1 to 16, or factor 0: the wire */
     ANTENNA_WIRE_ENDS = 10,        /* ends differ in x and y: the wire */
-    ANTENNA_OBSTACLE_CORNERS = 11  /* corners reversed: the obstacle, from 0 */
+    ANTENNA_OBSTACLE_CORNERS = 11, /* corners reversed: the obstacle, from 0 */
+    ANTENNA_BUFFER = 16            /* more bytes are needed than were lent: the bytes needed */
 };
 
 /* The flags of a node. */
@@ -65,6 +69,16 @@ typedef struct {
  * (x1, y1, x2, y2: 16 bits each).
  */
 antenna_answer antenna_read(const uint8_t *file, size_t file_len);
+
+/*
+ * Writes the net file of three sections to the start of out. Tries refusals
+ * 4 to 11 on the sections, then 16.
+ * Count: the number of bytes written.
+ */
+antenna_answer antenna_write(const uint8_t *nodes, size_t nodes_len,
+                             const uint8_t *wires, size_t wires_len,
+                             const uint8_t *obstacles, size_t obstacles_len,
+                             uint8_t *out, size_t out_len);
 
 #ifdef __cplusplus
 }

@@ -12,8 +12,33 @@ pub struct Answer {
 #[link(name = "antenna", kind = "static")]
 extern "C" {
     fn antenna_read(file: *const u8, file_len: usize) -> Answer;
+    fn antenna_write(
+        nodes: *const u8,
+        nodes_len: usize,
+        wires: *const u8,
+        wires_len: usize,
+        obstacles: *const u8,
+        obstacles_len: usize,
+        out: *mut u8,
+        out_len: usize,
+    ) -> Answer;
 }
 
 pub fn read(file: &[u8]) -> Answer {
     unsafe { antenna_read(file.as_ptr(), file.len()) }
+}
+
+pub fn write(nodes: &[u8], wires: &[u8], obstacles: &[u8], out: &mut [u8]) -> Answer {
+    unsafe {
+        antenna_write(
+            nodes.as_ptr(),
+            nodes.len(),
+            wires.as_ptr(),
+            wires.len(),
+            obstacles.as_ptr(),
+            obstacles.len(),
+            out.as_mut_ptr(),
+            out.len(),
+        )
+    }
 }
