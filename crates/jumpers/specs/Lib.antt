@@ -10,3 +10,4 @@ pub mod Scan
 pub mod ScanLaws
 pub mod ScanEnds
 pub mod ScanWeights
+pub mod ScanFits

@@ -10,11 +10,12 @@ use lib.Dec.{leb, ltb, eqb}
 use Rattle.laws.specs.Sum.{χ, sum, any}
 use Rattle.net.specs.Layout.{wireBytes, mostNodes}
 use Rattle.net.specs.Net.{nodeCount, nodeX, nodeY, nodeFlags, isGate, isSource, wireParent, wireLayer, wireFactor, wireLength}
-use Rattle.net.specs.Stage.{Stage}
+use Rattle.net.specs.Stage.{Stage, stageOf}
 use Rattle.cuts.specs.Fits.{freeAt}
 
 -- what reading a net has checked, as far as these passes use it
 pub record Wired (ns ws : List ℕ) : Type 0 where
+  pub some : 0 < nodeCount ns
   pub few : nodeCount ns ≤ mostNodes
   pub stored : (i : ℕ) → i < nodeCount ns → wireBytes * i ≤ length ws
   pub below : (i : ℕ) → 0 < i → i < nodeCount ns → wireParent ws i < i
@@ -89,3 +90,13 @@ upperWeight ns ws lo hi i = χ (cuttable lo i) ((wireLength ns ws i - getD hi i 
 -- numbers x i of the nodes below n, added up at the places a i
 abbrev pub gathered : ℕ → List ℕ → (ℕ → ℕ) → ℕ → ℕ
 gathered n a x r = sum n (λ i. χ (eqb (getD a i 0) r) (x i))
+
+-- what the first passes leave in the work arrays
+pub record Scanned (ns ws os : List ℕ) (k : ℕ) (lo hi root host component : List ℕ) (sourced : List Bool) (fixed gates : List ℕ) : Type 0 where
+  pub ends : Ends (stageOf ns ws os k) lo hi
+  pub roots : Leads (nodeCount ns) (whole ws k lo) (wireParent ws) root
+  pub hosts : (i : ℕ) → i < nodeCount ns → getD host i 0 ≡ hostOf ws lo root i
+  pub components : Leads (nodeCount ns) (made ws k) (wireParent ws) component
+  pub sources : (c : ℕ) → c < nodeCount ns → getD sourced c false ≡ sourceIn ns component (nodeCount ns) c
+  pub gated : (r : ℕ) → r < nodeCount ns → getD gates r 0 ≡ gathered (nodeCount ns) root (gateOf ns component sourced) r
+  pub weighed : (r : ℕ) → r < nodeCount ns → getD fixed r 0 ≡ gathered (nodeCount ns) root (lowerWeight ns ws k lo) r + gathered (nodeCount ns) host (upperWeight ns ws lo hi) r
