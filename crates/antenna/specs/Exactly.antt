@@ -13,7 +13,7 @@ use Rattle.net.specs.Stage.{Stage}
 use Rattle.net.specs.Refusal.{answer, none, refusal}
 use Rattle.pieces.specs.Legal.{size, listed, Smallest, NoneLegal}
 use Rattle.pieces.specs.Size.{listed-size}
-use Rattle.antenna.specs.Repair.{Judged, no-legal-set, too-short, done}
+use Rattle.jumpers.specs.Promise.{Judged, no-legal-set, too-short, done}
 
 -- the count of a smallest list is the number of its points
 pub smallest-size : {s : Stage} {limit : ℕ} {list : List ℕ} {n : ℕ} → Smallest s limit list n → size s (listed list n) ≡ n

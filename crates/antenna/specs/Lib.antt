@@ -1,3 +1,2 @@
-pub mod Repair
 pub mod Exactly
 pub mod Excluded
