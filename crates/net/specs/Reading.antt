@@ -172,9 +172,9 @@ module _ (os : List ℕ) (k : ℕ) where
     obstacle-right h = rw (le-ltb _ _ a, le-ltb _ _ h)
 
 -- a section, from its pair
-pub stretch-part : (f : List ℕ) (k a e : ℕ) → a ≡ offset f k → e ≡ extent f k → take (a + e - a) (drop a f) ≡ stretch f k
+pub stretch-part : (f : List ℕ) (k a e : ℕ) → a ≡ offset f k → e ≡ offset f k + extent f k → take (e - a) (drop a f) ≡ stretch f k
 unfolding stretch
-stretch-part f k a e p q = let s : a + e - a ≡ extent f k = omega arith in rw (s, p)
+stretch-part f k a e p q = let s : e - a ≡ extent f k = omega arith in rw (s, p)
 
 -- after 2 or 3 a section is empty, and the refusal is the file's; otherwise it is its stretch, and the net is looked at
 module _ (f : List ℕ) where

@@ -14,7 +14,7 @@ use crate::records::u16_at;
 use crate::records::u32_at;
 ghost use mathlib.Core.Path.{_≡_};
 ghost use mathlib.Core.Bool.{false};
-ghost use Prim.Native.Nat.{_<_, _≤_};
+ghost use Prim.Native.Nat.{_+_, _<_, _≤_};
 ghost use lib.ListN.{length};
 ghost use Rattle.net.specs.Layout.{headBytes};
 ghost use Rattle.net.specs.File.{offset, extent, stretch};
@@ -59,7 +59,7 @@ pub fn stretch(file: &[u8], k: usize) -> &[u8]
     ensures { λ r. ⌜ now r ≡ stretch (now (file .entry)) k ⌝ }
 {
     let start = offset(file, k);
-    let end = start + extent(file, k);
+    let end = end_of(file, k);
     &file[start..end]
 }
 
@@ -106,24 +106,29 @@ fn extent(file: &[u8], k: usize) -> usize
     u32_at(file, PAIRS_AT + LENGTH_AT + PAIR_BYTES * k) as usize
 }
 
-// Pairs: 3. Offsets and lengths of 32 bits are added at 64 bits.
+// Where section k ends. The sum of two numbers of 32 bits has 64: it does not wrap.
+fn end_of(file: &[u8], k: usize) -> usize
+    requires { ⌜ (k < 3) × (headBytes ≤ length (now file)) ⌝ }
+    ensures { λ r. ⌜ r ≡ offset (now (file .entry)) k + extent (now (file .entry)) k ⌝ }
+{
+    offset(file, k) + extent(file, k)
+}
+
+// Pairs: 3.
 fn pairs_refusal(file: &[u8]) -> Refusal
     requires { ⌜ headBytes ≤ length (now file) ⌝ }
     ensures { λ r. ⌜ r ≡ pairsRefusal (now (file .entry)) ⌝ }
 {
-    let nodes_at = offset(file, 0);
-    if nodes_at != HEAD_BYTES {
+    if offset(file, 0) != HEAD_BYTES {
         return refused(3, 0);
     }
-    let wires_at = offset(file, 1);
-    if wires_at != nodes_at + extent(file, 0) {
+    if offset(file, 1) != end_of(file, 0) {
         return refused(3, 0);
     }
-    let obstacles_at = offset(file, 2);
-    if obstacles_at != wires_at + extent(file, 1) {
+    if offset(file, 2) != end_of(file, 1) {
         return refused(3, 0);
     }
-    if file.len() != obstacles_at + extent(file, 2) {
+    if file.len() != end_of(file, 2) {
         return refused(3, 0);
     }
     none()

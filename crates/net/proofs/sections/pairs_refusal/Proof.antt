@@ -19,11 +19,8 @@ returns c = c .refused .ensures ∙ pairs-first _ (λ e. omega arith)
 offset-requires-2 : tie.Need-offset-requires-2
 offset-requires-2 c κs = search needs
 
-extent-requires : tie.Need-extent-requires
-extent-requires c κs = search needs
-
-add-if2 : tie.Need-add-if2
-add-if2 c = search needs
+end-of-requires : tie.Need-end-of-requires
+end-of-requires c κs = search needs
 
 refused-requires-2 : tie.Need-refused-requires-2
 refused-requires-2 c κs = search needs
@@ -34,11 +31,8 @@ returns-2 c = c .refused2 .ensures ∙ pairs-second _ (omega arith) (λ e. omega
 offset-requires-3 : tie.Need-offset-requires-3
 offset-requires-3 c κs = search needs
 
-extent-requires-2 : tie.Need-extent-requires-2
-extent-requires-2 c κs = search needs
-
-add-if3 : tie.Need-add-if3
-add-if3 c = search needs
+end-of-requires-2 : tie.Need-end-of-requires-2
+end-of-requires-2 c κs = search needs
 
 refused-requires-3 : tie.Need-refused-requires-3
 refused-requires-3 c κs = search needs
@@ -46,11 +40,8 @@ refused-requires-3 c κs = search needs
 returns-3 : tie.Need-returns-3
 returns-3 c = c .refused3 .ensures ∙ pairs-third _ (omega arith) (omega arith) (λ e. omega arith)
 
-extent-requires-3 : tie.Need-extent-requires-3
-extent-requires-3 c κs = search needs
-
-add-if4 : tie.Need-add-if4
-add-if4 c = search needs
+end-of-requires-3 : tie.Need-end-of-requires-3
+end-of-requires-3 c κs = search needs
 
 refused-requires-4 : tie.Need-refused-requires-4
 refused-requires-4 c κs = search needs
@@ -72,17 +63,14 @@ pairs-refusal-spec =
     refused-requires
     returns
     offset-requires-2
-    extent-requires
-    add-if2
+    end-of-requires
     refused-requires-2
     returns-2
     offset-requires-3
-    extent-requires-2
-    add-if3
+    end-of-requires-2
     refused-requires-3
     returns-3
-    extent-requires-3
-    add-if4
+    end-of-requires-3
     refused-requires-4
     returns-4
     none-requires
