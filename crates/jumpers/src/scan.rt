@@ -11,11 +11,14 @@ use points::length_of;
 use points::lowest_cuttable;
 ghost use mathlib.Core.Path.{_≡_};
 ghost use mathlib.Core.Bool.{Bool, true, false};
-ghost use Prim.Native.Nat.{ℕ, _+_, _*_, _<_, _≤_};
+ghost use Prim.Native.Nat.{ℕ, _+_, _*_, _^_, _<_, _≤_};
 ghost use lib.ListN.{length, getD};
 ghost use Rattle.net.specs.Layout.{wireBytes};
 ghost use Rattle.net.specs.Net.{nodeCount, wireParent, wireLength};
 ghost use Rattle.net.specs.Stage.{stageOf};
+ghost use Rattle.cuts.specs.Fits.{Fits};
+ghost use Rattle.cuts.specs.Bounds.{allWeight};
+ghost use Rattle.jumpers.specs.Arrays.{clustersOf};
 ghost use Rattle.jumpers.specs.Scan.{Wired, LowestFree, HighestFree, Ends, Inside, made, cuttable, whole, leader, Leads, Falling, hostOf, sourceIn, gateOf, gathered, lowerWeight, upperWeight};
 
 // Wire i is present at the stage.
@@ -266,4 +269,35 @@ pub fn weigh_clusters(
         fixed[h] += upper_weight(nodes, wires, lo, hi, i);
         i += 1;
     }
+}
+
+// All the first passes in order.
+pub fn scan(
+    nodes: &[u8],
+    wires: &[u8],
+    obstacles: &[u8],
+    stage: u8,
+    lo: &mut [u64],
+    hi: &mut [u64],
+    root: &mut [usize],
+    host: &mut [usize],
+    component: &mut [usize],
+    sourced: &mut [bool],
+    fixed: &mut [u64],
+    gates: &mut [u64],
+)
+    requires { ⌜ Wired (now nodes) (now wires) ⌝ }
+    requires { ⌜ (nodeCount (now nodes) ≤ length (now lo)) × (nodeCount (now nodes) ≤ length (now hi)) × (nodeCount (now nodes) ≤ length (now root)) × (nodeCount (now nodes) ≤ length (now host)) × (nodeCount (now nodes) ≤ length (now component)) × (nodeCount (now nodes) ≤ length (now sourced)) × (nodeCount (now nodes) ≤ length (now fixed)) × (nodeCount (now nodes) ≤ length (now gates)) ⌝ }
+    ensures { λ _. ⌜ Fits (stageOf (now (nodes .entry)) (now (wires .entry)) (now (obstacles .entry)) stage)
+        (clustersOf (stageOf (now (nodes .entry)) (now (wires .entry)) (now (obstacles .entry)) stage) (now (lo .exit)) (now (hi .exit)) (now (host .exit)) (now (fixed .exit)) (now (gates .exit)))
+        (λ i. getD (now (root .exit)) i 0) (λ i. getD (now (component .exit)) i 0) ⌝ }
+    ensures { λ _. ⌜ allWeight (clustersOf (stageOf (now (nodes .entry)) (now (wires .entry)) (now (obstacles .entry)) stage) (now (lo .exit)) (now (hi .exit)) (now (host .exit)) (now (fixed .exit)) (now (gates .exit))) < 2 ^ 48 ⌝ }
+{
+    find_cuttable(nodes, wires, obstacles, stage, lo, hi);
+    find_roots(nodes, wires, stage, lo, root);
+    find_hosts(nodes, wires, lo, root, host);
+    find_components(nodes, wires, stage, component);
+    mark_sources(nodes, component, sourced);
+    count_gates(nodes, root, component, sourced, gates);
+    weigh_clusters(nodes, wires, stage, lo, hi, root, host, fixed);
 }
