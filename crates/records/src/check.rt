@@ -90,12 +90,14 @@ fn entry_refusal(
     requires { ⌜ e < entryCount (now list) ⌝ }
     ensures { λ r. ⌜ r ≡ entryRefusal (stageOf (now (nodes .entry)) (now (wires .entry)) (now (obstacles .entry)) stage) (now (list .entry)) e ⌝ }
 {
-    if !is_after(list, e) {
-        return refused(12, e as u64);
-    }
     let i = entry_wire(list, e);
     let t = entry_position(list, e);
-    if !lies_inside(stage, nodes, wires, i, t) {
+    let after = is_after(list, e);
+    let inside = lies_inside(stage, nodes, wires, i, t);
+    if !after {
+        return refused(12, e as u64);
+    }
+    if !inside {
         return refused(13, e as u64);
     }
     if is_barred(nodes, wires, obstacles, i, t) {
