@@ -1,6 +1,7 @@
 -- `net::sections::section` meets its contract.
 -- Assumes nothing.
 use mathlib.Core.Path.{_∙_, ap, sym}
+use native.Mathlib.Omega.{arith}
 use Rattle.net.specs.Refusal.{met}
 use Rattle.net.specs.First.{met-number, unmet-number}
 use Rattle.net.specs.Reading.{section-empty, section-stretch}
@@ -21,13 +22,13 @@ part-result-end : tie.Need-part-result-end
 part-result-end c = search needs
 
 returns : tie.Need-returns
-returns c = let r = c .before .before .before .head-and-pairs-refusal in section-empty _ _ (ap met (sym (r .ensures)) ∙ met-number (r .result) (c .before .if1 .taken))
+returns c = let r = c .before .before .before .head-and-pairs-refusal in section-empty _ _ (ap met (sym (r .ensures)) ∙ met-number (r .result) (λ e. omega arith))
 
 stretch-requires : tie.Need-stretch-requires
-stretch-requires c κs = let r = c .before .before .head-and-pairs-refusal in (search needs, ap met (sym (r .ensures)) ∙ unmet-number (r .result) (c .if1 .left))
+stretch-requires c κs = let r = c .before .before .head-and-pairs-refusal in (search needs, ap met (sym (r .ensures)) ∙ unmet-number (r .result) (omega arith))
 
 returns-2 : tie.Need-returns-2
-returns-2 c = let r = c .before .before .before .head-and-pairs-refusal in c .stretch .ensures ∙ section-stretch _ _ (ap met (sym (r .ensures)) ∙ unmet-number (r .result) (c .before .if1 .left))
+returns-2 c = let r = c .before .before .before .head-and-pairs-refusal in c .stretch .ensures ∙ section-stretch _ _ (ap met (sym (r .ensures)) ∙ unmet-number (r .result) (omega arith))
 
 pub section-spec : {M : Type 1} → statement M
 section-spec =
