@@ -1,5 +1,6 @@
 pub mod Promise
 pub mod Arrays
+pub mod Choose
 pub mod Close
 pub mod CloseSums
 pub mod CloseCutting
@@ -7,6 +8,8 @@ pub mod CloseEndings
 pub mod CountFrame
 pub mod Climb
 pub mod ClimbLaws
+pub mod Listing
+pub mod ListingWriting
 pub mod Scan
 pub mod ScanLaws
 pub mod ScanEnds
