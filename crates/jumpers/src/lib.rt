@@ -1,6 +1,6 @@
 // The code of repair: cuttable points, clusters, the pass down, the pass up, the jumper list.
-mod climb;
 mod choose;
+mod climb;
 mod close;
 mod list;
 mod scan;
