@@ -1,5 +1,6 @@
 pub mod Cluster
 pub mod Passes
+pub mod OtherFree
 pub mod Fits
 pub mod ChosenModes
 pub mod ChosenGood
