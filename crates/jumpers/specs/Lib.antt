@@ -1,6 +1,7 @@
 pub mod Promise
 pub mod Arrays
 pub mod Choose
+pub mod ChooseLaws
 pub mod Close
 pub mod CloseSums
 pub mod CloseCutting
