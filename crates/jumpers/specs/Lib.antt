@@ -11,6 +11,10 @@ pub mod Climb
 pub mod ClimbLaws
 pub mod Listing
 pub mod ListingWriting
+pub mod Count
+pub mod CountStep
+pub mod CountArrays
+pub mod CountStored
 pub mod Scan
 pub mod ScanLaws
 pub mod ScanEnds

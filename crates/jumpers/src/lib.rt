@@ -2,5 +2,6 @@
 mod choose;
 mod climb;
 mod close;
+mod count;
 mod list;
 mod scan;

@@ -1,0 +1,91 @@
+-- `jumpers::count::close_at` meets its contract.
+-- Assumes nothing.
+use native.Mathlib.Omega.{arith}
+use borrow.Author.Needs.{needs}
+use Rattle.jumpers.proofs.count.close_at.Statement.{statement}
+use Rattle.jumpers.proofs.count.close_at.Tie as tie
+
+mul-close : tie.Need-mul-close
+mul-close c = search needs
+
+shared-slice-read-close : tie.Need-shared-slice-read-close
+shared-slice-read-close c = search needs
+
+mul-close-2 : tie.Need-mul-close-2
+mul-close-2 c = search needs
+
+shared-slice-read-close-2 : tie.Need-shared-slice-read-close-2
+shared-slice-read-close-2 c = search needs
+
+close-requires : tie.Need-close-requires
+close-requires c κs = search needs
+
+mul-fewest : tie.Need-mul-fewest
+mul-fewest c = omega (arith, c .before .before .before .before .before .before .before .before .before .before .before .before .before .before .before .before .before .before .before .before .pre .1 .0, c .before .before .before .before .before .before .before .before .before .before .before .before .before .before .before .before .before .before .before .before .pre .1 .1 .0 .few)
+
+slice-write-fewest : tie.Need-slice-write-fewest
+slice-write-fewest c = omega (arith, c .before .before .before .before .before .before .before .before .before .before .before .before .before .before .before .before .before .before .before .before .pre .1 .0, c .before .before .before .before .before .before .before .before .before .before .before .before .before .before .before .before .before .before .before .before .pre .1 .1 .0 .few)
+
+slice-write-any : tie.Need-slice-write-any
+slice-write-any c = omega (arith, c .before .before .before .before .before .before .before .before .before .before .before .before .before .before .before .before .before .before .before .before .pre .1 .0, c .before .before .before .before .before .before .before .before .before .before .before .before .before .before .before .before .before .before .before .before .pre .1 .1 .0 .few)
+
+mul-anyweight : tie.Need-mul-anyweight
+mul-anyweight c = omega (arith, c .before .before .before .before .before .before .before .before .before .before .before .before .before .before .before .before .before .before .before .before .pre .1 .0, c .before .before .before .before .before .before .before .before .before .before .before .before .before .before .before .before .before .before .before .before .pre .1 .1 .0 .few)
+
+slice-write-anyweight : tie.Need-slice-write-anyweight
+slice-write-anyweight c = omega (arith, c .before .before .before .before .before .before .before .before .before .before .before .before .before .before .before .before .before .before .before .before .pre .1 .0, c .before .before .before .before .before .before .before .before .before .before .before .before .before .before .before .before .before .before .before .before .pre .1 .1 .0 .few)
+
+slice-write-quiet : tie.Need-slice-write-quiet
+slice-write-quiet c = omega (arith, c .before .before .before .before .before .before .before .before .before .before .before .before .before .before .before .before .before .before .before .before .pre .1 .0, c .before .before .before .before .before .before .before .before .before .before .before .before .before .before .before .before .before .before .before .before .pre .1 .1 .0 .few)
+
+mul-quietweight : tie.Need-mul-quietweight
+mul-quietweight c = omega (arith, c .before .before .before .before .before .before .before .before .before .before .before .before .before .before .before .before .before .before .before .before .pre .1 .0, c .before .before .before .before .before .before .before .before .before .before .before .before .before .before .before .before .before .before .before .before .pre .1 .1 .0 .few)
+
+slice-write-quietweight : tie.Need-slice-write-quietweight
+slice-write-quietweight c = omega (arith, c .before .before .before .before .before .before .before .before .before .before .before .before .before .before .before .before .before .before .before .before .pre .1 .0, c .before .before .before .before .before .before .before .before .before .before .before .before .before .before .before .before .before .before .before .before .pre .1 .1 .0 .few)
+
+same-length : tie.Need-same-length
+same-length c = search needs
+
+same-length-2 : tie.Need-same-length-2
+same-length-2 c = search needs
+
+same-length-3 : tie.Need-same-length-3
+same-length-3 c = search needs
+
+same-length-4 : tie.Need-same-length-4
+same-length-4 c = search needs
+
+same-length-5 : tie.Need-same-length-5
+same-length-5 c = search needs
+
+same-length-6 : tie.Need-same-length-6
+same-length-6 c = search needs
+
+returns : tie.Need-returns
+returns c = search needs
+
+pub close-at-spec : {M : Type 1} → statement M
+close-at-spec =
+    tie.close
+    (tie.spec
+    mul-close
+    shared-slice-read-close
+    mul-close-2
+    shared-slice-read-close-2
+    close-requires
+    mul-fewest
+    slice-write-fewest
+    slice-write-any
+    mul-anyweight
+    slice-write-anyweight
+    slice-write-quiet
+    mul-quietweight
+    slice-write-quietweight
+    same-length
+    same-length-2
+    same-length-3
+    same-length-4
+    same-length-5
+    same-length-6
+    returns)
