@@ -1,3 +1,11 @@
+pub mod Tests
+pub mod Gathered
+pub mod NodeRecords
+pub mod Gathering
+pub mod Judged
+pub mod Judging
+pub mod Reached
+pub mod StretchRecords
 pub mod Record
 pub mod Entries
 pub mod EntriesChecked
