@@ -61,7 +61,7 @@ wireGives s c J root e h i =
 abbrev pub ownStretch : Stage → Clusters → Points → ℕ → ℕ
 ownStretch s c J i = χ (c .cuttable i && cutAt s J i) (c .factor i * (firstJumper s J i - c .lo i))
 
-eqb-sym : (a b : ℕ) → eqb a b ≡ eqb b a
+pub eqb-sym : (a b : ℕ) → eqb a b ≡ eqb b a
 eqb-sym a b =
     by (eqb a b)
     (λ y. y ∙ sym (eq-eqb b a (sym (eqb-true a b y))))

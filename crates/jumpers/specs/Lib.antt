@@ -1,6 +1,9 @@
 pub mod Promise
 pub mod Arrays
 pub mod Choose
+pub mod ListingSmallest
+pub mod ListingPoints
+pub mod ListingOrder
 pub mod ChooseLaws
 pub mod Close
 pub mod CloseSums
