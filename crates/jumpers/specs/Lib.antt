@@ -1,4 +1,5 @@
 pub mod Promise
+pub mod RepairLaws
 pub mod Arrays
 pub mod Choose
 pub mod ListingSmallest

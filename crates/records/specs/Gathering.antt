@@ -138,49 +138,49 @@ module _ (s : Stage) (J : Points) where
   -- the arrays after a wire
   module _ (formed : Formed s) (inside : Inside s J) (i : ℕ) (range : s .present i ≡ true → (1 ≤ s .layer i) × (s .layer i ≤ mostLayers))
       {lo w f l : List ℕ} (g : Gathered s J i lo w f l)
-      where
-    gathered-next : {lo′ w′ f′ l′ : List ℕ} (own : ℕ) → own ≡ lowestNode s J i → (flags : ℕ) → flags ≡ χ (s .gate i) 1 + χ (s .source i) 2 →
-        Named lo f lo′ f′ i own flags →
-        ((j : ℕ) → getD w′ j 0 ≡ getD w j 0 + χ (s .present i) (wireAdds s J j i)) →
-        ((j : ℕ) → getD l′ j 0 ≡ bitOr (getD l j 0) (χ (s .present i && stepsIn s J j i) (2 ^ (s .layer i - 1)))) →
-        Gathered s J (i + 1) lo′ w′ f′ l′
-    gathered-next own e flags fe n we le =
-        record {
-          lowests = λ j p.
-              by (eqb j i)
-              (λ y. rw (eqb-true j i y) (n .here ∙ e))
-              (λ z. let ne = eqb-false j i z in n .names j (omega arith) ∙ g .lowests j (omega arith));
-          weights = λ h. we h ∙ (rw (g .weights h) (sym (weight-next i h)));
-          flagged = λ h. n .flagged h ∙ (rw (g .flagged h, e) (sym (flags-next i h flags fe)));
-          layered = λ h. le h ∙ (rw (g .layered h) (sym (layers-next i h range)));
-        }
+    where
+      gathered-next : {lo′ w′ f′ l′ : List ℕ} (own : ℕ) → own ≡ lowestNode s J i → (flags : ℕ) → flags ≡ χ (s .gate i) 1 + χ (s .source i) 2 →
+          Named lo f lo′ f′ i own flags →
+          ((j : ℕ) → getD w′ j 0 ≡ getD w j 0 + χ (s .present i) (wireAdds s J j i)) →
+          ((j : ℕ) → getD l′ j 0 ≡ bitOr (getD l j 0) (χ (s .present i && stepsIn s J j i) (2 ^ (s .layer i - 1)))) →
+          Gathered s J (i + 1) lo′ w′ f′ l′
+      gathered-next own e flags fe n we le =
+          record {
+            lowests = λ j p.
+                by (eqb j i)
+                (λ y. rw (eqb-true j i y) (n .here ∙ e))
+                (λ z. let ne = eqb-false j i z in n .names j (omega arith) ∙ g .lowests j (omega arith));
+            weights = λ h. we h ∙ (rw (g .weights h) (sym (weight-next i h)));
+            flagged = λ h. n .flagged h ∙ (rw (g .flagged h, e) (sym (flags-next i h flags fe)));
+            layered = λ h. le h ∙ (rw (g .layered h) (sym (layers-next i h range)));
+          }
 
-    -- an absent wire
-    pub gathered-absent : {lo′ f′ : List ℕ} (flags : ℕ) → flags ≡ χ (s .gate i) 1 + χ (s .source i) 2 → s .present i ≡ false → i ≡ lowestNode s J i →
-        Named lo f lo′ f′ i i flags → Gathered s J (i + 1) lo′ w f′ l
-    gathered-absent flags fe z e n =
-        gathered-next i e flags fe n (λ j. rw z (omega arith)) (λ j. rw z (sym (or-zero-r (getD l j 0))))
+      -- an absent wire
+      pub gathered-absent : {lo′ f′ : List ℕ} (flags : ℕ) → flags ≡ χ (s .gate i) 1 + χ (s .source i) 2 → s .present i ≡ false → i ≡ lowestNode s J i →
+          Named lo f lo′ f′ i i flags → Gathered s J (i + 1) lo′ w f′ l
+      gathered-absent flags fe z e n =
+          gathered-next i e flags fe n (λ j. rw z (omega arith)) (λ j. rw z (sym (or-zero-r (getD l j 0))))
 
-    -- a present wire without a jumper
-    pub gathered-joined : {lo′ w′ f′ l′ : List ℕ} (own : ℕ) → own ≡ lowestNode s J i → (flags : ℕ) → flags ≡ χ (s .gate i) 1 + χ (s .source i) 2 →
-        s .present i ≡ true → cutAt s J i ≡ false →
-        Named lo f lo′ f′ i own flags → Added w l w′ l′ own (s .len i) (s .factor i) (s .layer i) → Gathered s J (i + 1) lo′ w′ f′ l′
-    gathered-joined own e flags fe y u n a =
-        gathered-next own e flags fe n
-        (λ j. a .weighed j ∙ rw (y, uncut-adds inside i j u, e))
-        (λ j. a .layered j ∙ rw (y, uncut-steps inside i j u, e))
+      -- a present wire without a jumper
+      pub gathered-joined : {lo′ w′ f′ l′ : List ℕ} (own : ℕ) → own ≡ lowestNode s J i → (flags : ℕ) → flags ≡ χ (s .gate i) 1 + χ (s .source i) 2 →
+          s .present i ≡ true → cutAt s J i ≡ false →
+          Named lo f lo′ f′ i own flags → Added w l w′ l′ own (s .len i) (s .factor i) (s .layer i) → Gathered s J (i + 1) lo′ w′ f′ l′
+      gathered-joined own e flags fe y u n a =
+          gathered-next own e flags fe n
+          (λ j. a .weighed j ∙ rw (y, uncut-adds inside i j u, e))
+          (λ j. a .layered j ∙ rw (y, uncut-steps inside i j u, e))
 
-    -- a present wire with jumpers: w₁ and l₁ are the arrays between the two additions
-    pub gathered-cut : {lo′ w₁ l₁ w′ f′ l′ : List ℕ} (first last above flags : ℕ) → i ≡ lowestNode s J i → above ≡ lowestNode s J (s .parent i) →
-        first ≡ firstJumper s J i → last ≡ lastJumper s J i → flags ≡ χ (s .gate i) 1 + χ (s .source i) 2 →
-        s .present i ≡ true → cutAt s J i ≡ true →
-        Named lo f lo′ f′ i i flags → Added w l w₁ l₁ i first (s .factor i) (s .layer i) →
-        Added w₁ l₁ w′ l′ above (s .len i - last) (s .factor i) (s .layer i) → Gathered s J (i + 1) lo′ w′ f′ l′
-    unfolding layersBelow
-    gathered-cut first last above flags e q p r fe y c n a b =
-        gathered-next i e flags fe n
-        (λ j. b .weighed j ∙ rw (a .weighed j, y, cut-adds inside i j c, ← p, ← r, ← q, ← e) (omega arith))
-        (λ j.
-        b .layered j
-        ∙ rw (a .layered j, y, cut-steps inside i j c, ← p, ← r, ← q, ← e, g .layered j, ← layer-mask (s .layer i) (range y .0) (range y .1))
-        (or-twice mostLayers (λ b. any i (λ k. s .present k && (stepsIn s J j k && eqb (s .layer k) (suc b)))) (eqb i j && ltb 0 first) (eqb above j && ltb 0 (s .len i - last)) (λ b. eqb (s .layer i) (suc b))))
+      -- a present wire with jumpers: w₁ and l₁ are the arrays between the two additions
+      pub gathered-cut : {lo′ w₁ l₁ w′ f′ l′ : List ℕ} (first last above flags : ℕ) → i ≡ lowestNode s J i → above ≡ lowestNode s J (s .parent i) →
+          first ≡ firstJumper s J i → last ≡ lastJumper s J i → flags ≡ χ (s .gate i) 1 + χ (s .source i) 2 →
+          s .present i ≡ true → cutAt s J i ≡ true →
+          Named lo f lo′ f′ i i flags → Added w l w₁ l₁ i first (s .factor i) (s .layer i) →
+          Added w₁ l₁ w′ l′ above (s .len i - last) (s .factor i) (s .layer i) → Gathered s J (i + 1) lo′ w′ f′ l′
+      unfolding layersBelow
+      gathered-cut first last above flags e q p r fe y c n a b =
+          gathered-next i e flags fe n
+          (λ j. b .weighed j ∙ rw (a .weighed j, y, cut-adds inside i j c, ← p, ← r, ← q, ← e) (omega arith))
+          (λ j.
+          b .layered j
+          ∙ rw (a .layered j, y, cut-steps inside i j c, ← p, ← r, ← q, ← e, g .layered j, ← layer-mask (s .layer i) (range y .0) (range y .1))
+          (or-twice mostLayers (λ b. any i (λ k. s .present k && (stepsIn s J j k && eqb (s .layer k) (suc b)))) (eqb i j && ltb 0 first) (eqb above j && ltb 0 (s .len i - last)) (λ b. eqb (s .layer i) (suc b))))

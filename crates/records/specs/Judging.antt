@@ -100,45 +100,45 @@ module _ (ns ws list os : List ℕ) (k : ℕ) (j : Judged ns ws k list os) where
     module _ (a b : ℕ) (entries : OfWire list (entryCount list) i a b) (y : (ltb 0 i && leb (wireLayer ws i) k) ≡ true)
         (above flags len factor layer : ℕ) (ae : above ≡ getD lo (wireParent ws i) 0) (fe : flags ≡ nodeFlags ns i)
         (le : len ≡ wireLength ns ws i) (re : factor ≡ wireFactor ws i) (ye : layer ≡ wireLayer ws i)
-        where
-      present : stageOf ns ws os k .present i ≡ true
-      present = present-is i inside ∙ y
+      where
+        present : stageOf ns ws os k .present i ≡ true
+        present = present-is i inside ∙ y
 
-      pub above-is : above ≡ lowestNode (stageOf ns ws os k) (setOf list) (wireParent ws i)
-      unfolding stageOf
-      above-is = ae ∙ g .lowests (wireParent ws i) (formed-of .below i present)
+        pub above-is : above ≡ lowestNode (stageOf ns ws os k) (setOf list) (wireParent ws i)
+        unfolding stageOf
+        above-is = ae ∙ g .lowests (wireParent ws i) (formed-of .below i present)
 
-      pub above-inside : above < i
-      unfolding stageOf
-      above-inside =
-          let p = formed-of .below i present in
-          let q = lowestNode-≤ (stageOf ns ws os k) (setOf list) formed-of (wireParent ws i) in
-          let r = above-is in
-          omega arith
+        pub above-inside : above < i
+        unfolding stageOf
+        above-inside =
+            let p = formed-of .below i present in
+            let q = lowestNode-≤ (stageOf ns ws os k) (setOf list) formed-of (wireParent ws i) in
+            let r = above-is in
+            omega arith
 
-      pub step-joined : {lo′ w′ f′ l′ : List ℕ} → a ≡ b → Named lo f lo′ f′ i above flags → Added w l w′ l′ above len factor layer →
-          Gathered (stageOf ns ws os k) (setOf list) (i + 1) lo′ w′ f′ l′
-      unfolding stageOf
-      step-joined e n d =
-          let s = stageOf ns ws os k in
-          let uncut : cutAt s (setOf list) i ≡ false = entries-cut i a b entries ∙ le-ltb a b (omega arith) in
-          gathered-joined s (setOf list) formed-of inside-of i (range-of i) g above
-          (above-is ∙ sym (lowestNode-up s (setOf list) formed-of i (joins-yes s (setOf list) i present uncut)))
-          flags (fe ∙ flags-of i inside) present uncut n (rw (← le, ← re, ← ye) d)
+        pub step-joined : {lo′ w′ f′ l′ : List ℕ} → a ≡ b → Named lo f lo′ f′ i above flags → Added w l w′ l′ above len factor layer →
+            Gathered (stageOf ns ws os k) (setOf list) (i + 1) lo′ w′ f′ l′
+        unfolding stageOf
+        step-joined e n d =
+            let s = stageOf ns ws os k in
+            let uncut : cutAt s (setOf list) i ≡ false = entries-cut i a b entries ∙ le-ltb a b (omega arith) in
+            gathered-joined s (setOf list) formed-of inside-of i (range-of i) g above
+            (above-is ∙ sym (lowestNode-up s (setOf list) formed-of i (joins-yes s (setOf list) i present uncut)))
+            flags (fe ∙ flags-of i inside) present uncut n (rw (← le, ← re, ← ye) d)
 
-      pub step-cut : {lo′ w₁ l₁ w′ f′ l′ : List ℕ} → a < b → (first last : ℕ) → first ≡ entryPosition list a → last ≡ entryPosition list (b - 1) →
-          Named lo f lo′ f′ i i flags → Added w l w₁ l₁ i first factor layer → Added w₁ l₁ w′ l′ above (len - last) factor layer →
-          Gathered (stageOf ns ws os k) (setOf list) (i + 1) lo′ w′ f′ l′
-      unfolding stageOf
-      step-cut {lo′} {w₁} {l₁} e first last p q n c d =
-          let s = stageOf ns ws os k in
-          let cut : cutAt s (setOf list) i ≡ true = entries-cut i a b entries ∙ lt-ltb a b e in
-          gathered-cut s (setOf list) formed-of inside-of i (range-of i) g {w₁ = w₁} {l₁ = l₁} first last above flags
-          (sym (lowestNode-stop s (setOf list) formed-of i (cut-apart s (setOf list) i cut)))
-          above-is
-          (p ∙ sym (of-wire-first s list (entryCount list) free-of rising-of i a b entries e))
-          (q ∙ sym (of-wire-last s list (entryCount list) free-of rising-of i a b entries e))
-          (fe ∙ flags-of i inside) present cut n (rw (← re, ← ye) c) (rw (← le, ← re, ← ye) d)
+        pub step-cut : {lo′ w₁ l₁ w′ f′ l′ : List ℕ} → a < b → (first last : ℕ) → first ≡ entryPosition list a → last ≡ entryPosition list (b - 1) →
+            Named lo f lo′ f′ i i flags → Added w l w₁ l₁ i first factor layer → Added w₁ l₁ w′ l′ above (len - last) factor layer →
+            Gathered (stageOf ns ws os k) (setOf list) (i + 1) lo′ w′ f′ l′
+        unfolding stageOf
+        step-cut {lo′} {w₁} {l₁} e first last p q n c d =
+            let s = stageOf ns ws os k in
+            let cut : cutAt s (setOf list) i ≡ true = entries-cut i a b entries ∙ lt-ltb a b e in
+            gathered-cut s (setOf list) formed-of inside-of i (range-of i) g {w₁ = w₁} {l₁ = l₁} first last above flags
+            (sym (lowestNode-stop s (setOf list) formed-of i (cut-apart s (setOf list) i cut)))
+            above-is
+            (p ∙ sym (of-wire-first s list (entryCount list) free-of rising-of i a b entries e))
+            (q ∙ sym (of-wire-last s list (entryCount list) free-of rising-of i a b entries e))
+            (fe ∙ flags-of i inside) present cut n (rw (← re, ← ye) c) (rw (← le, ← re, ← ye) d)
 
 -- ---- what a step may rely on
 -- of a wire that the stage has, with its entries a to b − 1

@@ -31,58 +31,58 @@ use Rattle.records.specs.EntriesOfWire.{OfWire, entry-jumper, jumper-ent
 module _ (s : Stage) (J : Points) (formed : Formed s) (inside : Inside s J)
     (i p q : ℕ) (present : s .present i ≡ true) (at-p : J i p ≡ true) (at-q : J i q ≡ true) (less : p < q)
     (none : (t : ℕ) → p < t → t < q → J i t ≡ false)
-    where
-  no-node : (k : ℕ) → named s J i p (node k) ≡ false
-  no-node k = stretch-no-node s J formed inside i p k (inside i p at-p .0)
+  where
+    no-node : (k : ℕ) → named s J i p (node k) ≡ false
+    no-node k = stretch-no-node s J formed inside i p k (inside i p at-p .0)
 
-  stretch-flags : (limit : ℕ) → flagsOf s limit (named s J i p) ≡ 0
-  unfolding flagsOf isHarmful hasGate hasSource
-  stretch-flags limit =
-      rw (any-none (s .nodes) (λ k. s .gate k && named s J i p (node k)) (λ k l. and-no-right (s .gate k) (no-node k)), any-none (s .nodes) (λ k. s .source k && named s J i p (node k)) (λ k l. and-no-right (s .source k) (no-node k)))
+    stretch-flags : (limit : ℕ) → flagsOf s limit (named s J i p) ≡ 0
+    unfolding flagsOf isHarmful hasGate hasSource
+    stretch-flags limit =
+        rw (any-none (s .nodes) (λ k. s .gate k && named s J i p (node k)) (λ k l. and-no-right (s .gate k) (no-node k)), any-none (s .nodes) (λ k. s .source k && named s J i p (node k)) (λ k l. and-no-right (s .source k) (no-node k)))
 
-  first-step : named s J i p (step i (suc p)) ≡ true
-  first-step =
-      let b = inside i q at-q in
-      let f = first-least s J inside i p at-p in
-      let l = last-most s J inside i q at-q in
-      let f′ : firstJumper s J i < suc p = omega arith in
-      let l′ : suc p ≤ lastJumper s J i = omega arith in
-      named-yes s J (step i (suc p)) (a-step {t = suc p} present (omega arith) (omega arith)) (number-mid s J inside i (suc p) f′ l′)
-      (position-mid s J inside i (suc p) f′ l′
-      ∙ highest-last (suc p) p (λ x. J i x) (omega arith) at-p (λ t u v. absurd (native.Mathlib.Nat.lt-irrefl 0 (omega arith))))
+    first-step : named s J i p (step i (suc p)) ≡ true
+    first-step =
+        let b = inside i q at-q in
+        let f = first-least s J inside i p at-p in
+        let l = last-most s J inside i q at-q in
+        let f′ : firstJumper s J i < suc p = omega arith in
+        let l′ : suc p ≤ lastJumper s J i = omega arith in
+        named-yes s J (step i (suc p)) (a-step {t = suc p} present (omega arith) (omega arith)) (number-mid s J inside i (suc p) f′ l′)
+        (position-mid s J inside i (suc p) f′ l′
+        ∙ highest-last (suc p) p (λ x. J i x) (omega arith) at-p (λ t u v. absurd (native.Mathlib.Nat.lt-irrefl 0 (omega arith))))
 
-  stretch-layer : (b : ℕ) → hasLayer s (named s J i p) b ≡ eqb (s .layer i) (suc b)
-  unfolding hasLayer
-  stretch-layer b = same-test (any (s .nodes) has) (eqb (s .layer i) (suc b)) to from
-    where
-      steps : ℕ → Bool
-      steps k = any (s .len k) (λ t. named s J i p (step k (suc t)))
+    stretch-layer : (b : ℕ) → hasLayer s (named s J i p) b ≡ eqb (s .layer i) (suc b)
+    unfolding hasLayer
+    stretch-layer b = same-test (any (s .nodes) has) (eqb (s .layer i) (suc b)) to from
+      where
+        steps : ℕ → Bool
+        steps k = any (s .len k) (λ t. named s J i p (step k (suc t)))
 
-      has : ℕ → Bool
-      has k = s .present k && (eqb (s .layer k) (suc b) && steps k)
+        has : ℕ → Bool
+        has k = s .present k && (eqb (s .layer k) (suc b) && steps k)
 
-      to : any (s .nodes) has ≡ true → eqb (s .layer i) (suc b) ≡ true
-      to y =
-          let r = any-some (s .nodes) has y in
-          let k = r .0 in
-          let w = and-right (s .present k) (eqb (s .layer k) (suc b) && steps k) (r .2) in
-          let u = any-some (s .len k) (λ t. named s J i p (step k (suc t))) (and-right (eqb (s .layer k) (suc b)) (steps k) w) in
-          let e = named-stretch s J formed inside i p k (suc (u .0)) (inside i p at-p .0) (u .2) .0 in
-          rw e (and-left (eqb (s .layer k) (suc b)) (steps k) w)
+        to : any (s .nodes) has ≡ true → eqb (s .layer i) (suc b) ≡ true
+        to y =
+            let r = any-some (s .nodes) has y in
+            let k = r .0 in
+            let w = and-right (s .present k) (eqb (s .layer k) (suc b) && steps k) (r .2) in
+            let u = any-some (s .len k) (λ t. named s J i p (step k (suc t))) (and-right (eqb (s .layer k) (suc b)) (steps k) w) in
+            let e = named-stretch s J formed inside i p k (suc (u .0)) (inside i p at-p .0) (u .2) .0 in
+            rw e (and-left (eqb (s .layer k) (suc b)) (steps k) w)
 
-      from : eqb (s .layer i) (suc b) ≡ true → any (s .nodes) has ≡ true
-      from y =
-          let v = inside i q at-q in
-          any-yes (s .nodes) i has (formed .inside i present)
-          (and-intro present (and-intro y (any-yes (s .len i) p (λ t. named s J i p (step i (suc t))) (omega arith) first-step)))
+        from : eqb (s .layer i) (suc b) ≡ true → any (s .nodes) has ≡ true
+        from y =
+            let v = inside i q at-q in
+            any-yes (s .nodes) i has (formed .inside i present)
+            (and-intro present (and-intro y (any-yes (s .len i) p (λ t. named s J i p (step i (suc t))) (omega arith) first-step)))
 
-  pub stretch-record : (limit : ℕ) → 1 ≤ s .layer i → s .layer i ≤ mostLayers →
-      recordOf s limit J (name i p) ≡ fields i p ((q - p) * s .factor i) 0 (2 ^ (s .layer i - 1))
-  unfolding layersOf
-  stretch-record limit low high =
-      let m : layersOf s (named s J i p) ≡ 2 ^ (s .layer i - 1) = mask-ap mostLayers (λ b l. stretch-layer b) ∙ layer-mask (s .layer i) low high in
-      record-fields s limit J (name i p)
-      ∙ rw (stretch-flags limit, m, stretch-weight s J inside formed i p q present at-p at-q less none)
+    pub stretch-record : (limit : ℕ) → 1 ≤ s .layer i → s .layer i ≤ mostLayers →
+        recordOf s limit J (name i p) ≡ fields i p ((q - p) * s .factor i) 0 (2 ^ (s .layer i - 1))
+    unfolding layersOf
+    stretch-record limit low high =
+        let m : layersOf s (named s J i p) ≡ 2 ^ (s .layer i - 1) = mask-ap mostLayers (λ b l. stretch-layer b) ∙ layer-mask (s .layer i) low high in
+        record-fields s limit J (name i p)
+        ∙ rw (stretch-flags limit, m, stretch-weight s J inside formed i p q present at-p at-q less none)
 
 -- ---- gathered at rising positions
 gather-none : {A : Type 0} (n : ℕ) (f : ℕ → List A) → ((t : ℕ) → t < n → f t ≡ []) → gather n f ≡ []

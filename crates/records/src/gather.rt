@@ -28,14 +28,7 @@ fn name_node(lowest: &mut [usize], flags: &mut [u8], i: usize, h: usize, of_node
 }
 
 // Some steps of a wire are in the piece whose lowest node is h.
-fn add_steps(
-    weight: &mut [u64],
-    layers: &mut [u16],
-    h: usize,
-    steps: u32,
-    factor: u8,
-    layer: u8,
-)
+fn add_steps(weight: &mut [u64], layers: &mut [u16], h: usize, steps: u32, factor: u8, layer: u8)
     requires { ⌜ (h < length (now weight)) × (h < length (now layers)) × (1 ≤ layer) × (layer ≤ mostLayers) ⌝ }
     requires { ⌜ getD (now weight) h 0 + steps * factor < 2 ^ 64 ⌝ }
     ensures { λ r. ⌜ Added (now (weight .entry)) (now (layers .entry)) (now (weight .exit)) (now (layers .exit)) h steps factor layer ⌝ }

@@ -13,7 +13,7 @@ use Rattle.records.proofs.gather.gather.Statement.{statement}
 use Rattle.records.proofs.gather.gather.Tie as tie
 
 abbrev Inv-loop : tie.InvT-loop
-Inv-loop stage nodes wires jumpers lowest₀ weight₀ flags₀ layers₀ count e₀ i₀ lowest weight flags layers e i = 
+Inv-loop stage nodes wires jumpers lowest₀ weight₀ flags₀ layers₀ count e₀ i₀ lowest weight flags layers e i =
     (i ≤ nodeCount nodes) × (count ≡ nodeCount nodes) × (e ≤ i * 65536) × Reached jumpers i e × AtMost (i * 33554432) weight
     × GatheredBelow nodes wires stage jumpers i lowest weight flags layers
     × (length lowest ≡ length lowest₀) × (length weight ≡ length weight₀) × (length flags ≡ length flags₀) × (length layers ≡ length layers₀)
@@ -25,7 +25,7 @@ node-count-requires : tie.Need-node-count-requires Inv-loop μ-loop
 node-count-requires c κs = search needs
 
 loop-holds : tie.Need-loop-holds Inv-loop μ-loop
-loop-holds c = 
+loop-holds c =
     let s = c .before .before .before .before .before .before .before .before in
     let z = s .pre .1 .1 in (
       omega arith,
@@ -44,7 +44,7 @@ entries-end-requires : tie.Need-entries-end-requires Inv-loop μ-loop
 entries-end-requires c κs = c .before .loop .inv .3 .inside
 
 step-requires : tie.Need-step-requires Inv-loop μ-loop
-step-requires c κs = 
+step-requires c κs =
     let s = c .before .before .before .before .before .before .before .before .before .before .before .before .before .before .before in
     let v = c .before .before .before .before .before .before .loop .inv in
     let n = c .before .before .before .before .entries-end .ensures in
@@ -60,7 +60,7 @@ loop-less : tie.Need-loop-less Inv-loop μ-loop
 loop-less c = search needs
 
 loop-again : tie.Need-loop-again Inv-loop μ-loop
-loop-again c = 
+loop-again c =
     let s = c .before .before .before .before .before .before .before .before .before .before .before .before .before .before .before .before .before .before .before .before .before .before .before .before in
     let v = c .before .before .before .before .before .before .before .before .before .before .before .before .before .before .before .loop .inv in
     let n = c .before .before .before .before .before .before .before .before .before .before .before .before .before .entries-end .ensures in
@@ -92,7 +92,7 @@ same-length-4 : tie.Need-same-length-4 Inv-loop μ-loop
 same-length-4 c = c .before .loop .inv .9
 
 returns : tie.Need-returns Inv-loop μ-loop
-returns c = 
+returns c =
     let s = c .before .before .before .before .before .before .before .before .before .before in
     let v = c .before .loop .inv in
     let q : c .before .loop .i ≡ nodeCount (s .args .nodes .now) = omega (arith, v .0, v .1) in

@@ -26,7 +26,7 @@ same-length-2 : tie.Need-same-length-2
 same-length-2 c = search needs
 
 returns : tie.Need-returns
-returns c = 
+returns c =
     let s = c .before .before .before .before .before .before .before .before .before .before .before .before .before .before .before .before .before in
     let z = sym (c .before .before .before .before .before .before .before .before .is-present .ensures) ∙ not-true _ (c .before .before .before .before .before .before .before .if1 .taken) in (
       λ os j.
@@ -57,10 +57,10 @@ name-node-requires-2 : tie.Need-name-node-requires-2
 name-node-requires-2 c κs = let s = c .before .before .before .before .before .before .before .before .before .before .before .before .before .before .before .before .before .before in let ab : getD (s .args .lowest .now) (c .before .before .before .before .before .before .before .wire-parent .result) 0 < s .args .i = rw (c .before .before .before .before .before .before .before .wire-parent .ensures) (above-below (s .args .nodes .now) (s .args .wires .now) (s .args .jumpers .now) (s .args .stage) (s .pre .0) (s .args .i) (s .pre .1 .0 .0) (s .args .e) (s .args .end) (s .pre .1 .0 .1) (s .pre .1 .1 .1) (sym (c .before .before .before .before .before .before .before .before .before .is-present .ensures) ∙ not-false _ (c .before .before .before .before .before .before .before .before .if1 .left))) in let m = s .pre .1 .1 .0 .0 in (omega (arith, m .lowests, s .pre .1 .0 .0), omega (arith, m .flagged, s .pre .1 .0 .0))
 
 add-steps-requires : tie.Need-add-steps-requires
-add-steps-requires c κs = 
+add-steps-requires c κs =
     let s = c .before .before .before .before .before .before .before .before .before .before .before .before .before .before .before .before .before .before .before .before .before .before .before .before .before in
     let r = ready (s .args .nodes .now) (s .args .wires .now) (s .args .jumpers .now) (s .args .stage) (s .pre .0) (s .args .i) (s .pre .1 .0 .0) (s .args .e) (s .args .end) (s .pre .1 .0 .1) (sym (c .before .before .before .before .before .before .before .before .before .before .before .before .before .before .before .before .is-present .ensures) ∙ not-false _ (c .before .before .before .before .before .before .before .before .before .before .before .before .before .before .before .if1 .left)) in
-    let ab : getD (s .args .lowest .now) (c .before .before .before .before .before .before .before .before .before .before .before .before .before .before .wire-parent .result) 0 < s .args .i = rw (c .before .before .before .before .before .before .before .before .before .before .before .before .before .before .wire-parent .ensures) (above-below (s .args .nodes .now) (s .args .wires .now) (s .args .jumpers .now) (s .args .stage) (s .pre .0) (s .args .i) (s .pre .1 .0 .0) (s .args .e) (s .args .end) (s .pre .1 .0 .1) (s .pre .1 .1 .1) (sym (c .before .before .before .before .before .before .before .before .before .before .before .before .before .before .before .before .is-present .ensures) ∙ not-false _ (c .before .before .before .before .before .before .before .before .before .before .before .before .before .before .before .if1 .left))) in 
+    let ab : getD (s .args .lowest .now) (c .before .before .before .before .before .before .before .before .before .before .before .before .before .before .wire-parent .result) 0 < s .args .i = rw (c .before .before .before .before .before .before .before .before .before .before .before .before .before .before .wire-parent .ensures) (above-below (s .args .nodes .now) (s .args .wires .now) (s .args .jumpers .now) (s .args .stage) (s .pre .0) (s .args .i) (s .pre .1 .0 .0) (s .args .e) (s .args .end) (s .pre .1 .0 .1) (s .pre .1 .1 .1) (sym (c .before .before .before .before .before .before .before .before .before .before .before .before .before .before .before .before .is-present .ensures) ∙ not-false _ (c .before .before .before .before .before .before .before .before .before .before .before .before .before .before .before .if1 .left))) in
     let m = s .pre .1 .1 .0 .0 in
     ((omega (arith, m .weights, s .pre .1 .0 .0), omega (arith, m .layered, s .pre .1 .0 .0), omega (arith, r .low, c .before .before .before .before .before .before .before .before .before .before .wire-layer .ensures), omega (arith, r .high, c .before .before .before .before .before .before .before .before .before .before .wire-layer .ensures)), omega (arith, r .some-node, s .pre .1 .1 .0 .1 (getD (s .args .lowest .now) (c .before .before .before .before .before .before .before .before .before .before .before .before .before .before .wire-parent .result) 0), product-small (c .before .before .before .before .before .before .before .before .before .before .before .before .length-of .result) (c .before .before .before .before .before .before .before .before .before .before .before .wire-factor .result) (c .before .before .before .before .before .before .before .before .before .before .before .before .length-of .ensures .1) (omega arith)))
 
@@ -77,12 +77,12 @@ same-length-6 : tie.Need-same-length-6
 same-length-6 c = search needs
 
 returns-2 : tie.Need-returns-2
-returns-2 c = 
+returns-2 c =
     let s = c .before .before .before .before .before .before .before .before .before .before .before .before .before .before .before .before .before .before .before .before .before .before .before .before .before .before .before .before .before .before in
     let len = c .before .before .before .before .before .before .before .before .before .before .before .before .before .before .before .before .before .length-of .ensures in (
       λ os j. step-joined (s .args .nodes .now) (s .args .wires .now) (s .args .jumpers .now) os (s .args .stage) j (s .args .i) (s .pre .1 .0 .0) (s .pre .1 .1 .1 os j) (s .args .e) (s .args .end) (s .pre .1 .0 .1) (sym (c .before .before .before .before .before .before .before .before .before .before .before .before .before .before .before .before .before .before .before .before .before .is-present .ensures) ∙ not-false _ (c .before .before .before .before .before .before .before .before .before .before .before .before .before .before .before .before .before .before .before .before .if1 .left)) (getD (s .args .lowest .now) (c .before .before .before .before .before .before .before .before .before .before .before .before .before .before .before .before .before .before .before .wire-parent .result) 0) (c .before .before .before .before .before .before .before .before .before .before .before .before .before .before .before .before .before .before .before .before .before .before .node-flags .result) (c .before .before .before .before .before .before .before .before .before .before .before .before .before .before .before .before .before .length-of .result) (c .before .before .before .before .before .before .before .before .before .before .before .before .before .before .before .before .wire-factor .result) (c .before .before .before .before .before .before .before .before .before .before .before .before .before .before .before .wire-layer .result) (rw (c .before .before .before .before .before .before .before .before .before .before .before .before .before .before .before .before .before .before .before .wire-parent .ensures)) (c .before .before .before .before .before .before .before .before .before .before .before .before .before .before .before .before .before .before .before .before .before .before .node-flags .ensures) (c .before .before .before .before .before .before .before .before .before .before .before .before .before .before .before .before .before .length-of .ensures .0) (c .before .before .before .before .before .before .before .before .before .before .before .before .before .before .before .before .wire-factor .ensures) (c .before .before .before .before .before .before .before .before .before .before .before .before .before .before .before .wire-layer .ensures) (c .before .before .before .before .before .before .before .before .before .before .before .before .before .before .if2 .taken) (c .before .before .before .before .before .before .before .before .before .before .before .name-node2 .ensures) (c .before .before .before .before .add-steps .ensures),
       at-more (s .args .i * 33554432 + 16777216) ((s .args .i + 1) * 33554432) (c .before .before .before .before .add-steps .last .0) (omega arith)
-      (added-small (s .args .i * 33554432) _ (c .before .before .before .before .before .before .before .before .before .before .before .before .before .before .before .before .before .length-of .result) (c .before .before .before .before .before .before .before .before .before .before .before .before .before .before .before .before .wire-factor .result) (c .before .before .before .before .before .before .before .before .before .before .before .before .before .before .before .wire-layer .result) (s .pre .1 .1 .0 .1) (c .before .before .before .before .add-steps .ensures) (len .1) (omega arith)),
+          (added-small (s .args .i * 33554432) _ (c .before .before .before .before .before .before .before .before .before .before .before .before .before .before .before .before .before .length-of .result) (c .before .before .before .before .before .before .before .before .before .before .before .before .before .before .before .before .wire-factor .result) (c .before .before .before .before .before .before .before .before .before .before .before .before .before .before .before .wire-layer .result) (s .pre .1 .1 .0 .1) (c .before .before .before .before .add-steps .ensures) (len .1) (omega arith)),
       omega arith,
     )
 
@@ -99,7 +99,7 @@ entry-position-requires-2 : tie.Need-entry-position-requires-2
 entry-position-requires-2 c κs = let s = c .before .before .before .before .before .before .before .before .before .before .before .before .before .before .before .before .before .before .before .before .before .before .before .before in let r = ready (s .args .nodes .now) (s .args .wires .now) (s .args .jumpers .now) (s .args .stage) (s .pre .0) (s .args .i) (s .pre .1 .0 .0) (s .args .e) (s .args .end) (s .pre .1 .0 .1) (sym (c .before .before .before .before .before .before .before .before .before .before .before .before .before .before .before .is-present .ensures) ∙ not-false _ (c .before .before .before .before .before .before .before .before .before .before .before .before .before .before .if1 .left)) in omega (arith, r .inside, s .pre .1 .0 .1 .ordered)
 
 add-steps-requires-2 : tie.Need-add-steps-requires-2
-add-steps-requires-2 c κs = 
+add-steps-requires-2 c κs =
     let s = c .before .before .before .before .before .before .before .before .before .before .before .before .before .before .before .before .before .before .before .before .before .before .before .before .before .before .before in
     let r = ready (s .args .nodes .now) (s .args .wires .now) (s .args .jumpers .now) (s .args .stage) (s .pre .0) (s .args .i) (s .pre .1 .0 .0) (s .args .e) (s .args .end) (s .pre .1 .0 .1) (sym (c .before .before .before .before .before .before .before .before .before .before .before .before .before .before .before .before .before .before .is-present .ensures) ∙ not-false _ (c .before .before .before .before .before .before .before .before .before .before .before .before .before .before .before .before .before .if1 .left)) in
     let m = s .pre .1 .1 .0 .0 in
@@ -111,10 +111,10 @@ sub-add-steps : tie.Need-sub-add-steps
 sub-add-steps c = let s = c .before .before .before .before .before .before .before .before .before .before .before .before .before .before .before .before .before .before .before .before .before .before .before .before .before .before .before .before .before .before .before .before .before .before in let r = ready (s .args .nodes .now) (s .args .wires .now) (s .args .jumpers .now) (s .args .stage) (s .pre .0) (s .args .i) (s .pre .1 .0 .0) (s .args .e) (s .args .end) (s .pre .1 .0 .1) (sym (c .before .before .before .before .before .before .before .before .before .before .before .before .before .before .before .before .before .before .before .before .before .before .before .before .before .is-present .ensures) ∙ not-false _ (c .before .before .before .before .before .before .before .before .before .before .before .before .before .before .before .before .before .before .before .before .before .before .before .before .if1 .left)) in omega (arith, r .last (omega (arith, s .pre .1 .0 .1 .ordered, c .before .before .before .before .before .before .before .before .before .before .before .before .before .before .before .before .before .before .if2 .left)), c .before .before .before .before .before .before .before .before .before .before .before .before .before .before .before .before .before .before .before .before .before .length-of .ensures .0, c .before .before .before .before .before .before .before .before .before .entry-position2 .ensures)
 
 add-steps-requires-3 : tie.Need-add-steps-requires-3
-add-steps-requires-3 c κs = 
+add-steps-requires-3 c κs =
     let s = c .before .before .before .before .before .before .before .before .before .before .before .before .before .before .before .before .before .before .before .before .before .before .before .before .before .before .before .before .before .before .before .before .before .before in
     let r = ready (s .args .nodes .now) (s .args .wires .now) (s .args .jumpers .now) (s .args .stage) (s .pre .0) (s .args .i) (s .pre .1 .0 .0) (s .args .e) (s .args .end) (s .pre .1 .0 .1) (sym (c .before .before .before .before .before .before .before .before .before .before .before .before .before .before .before .before .before .before .before .before .before .before .before .before .before .is-present .ensures) ∙ not-false _ (c .before .before .before .before .before .before .before .before .before .before .before .before .before .before .before .before .before .before .before .before .before .before .before .before .if1 .left)) in
-    let ab : getD (s .args .lowest .now) (c .before .before .before .before .before .before .before .before .before .before .before .before .before .before .before .before .before .before .before .before .before .before .before .wire-parent .result) 0 < s .args .i = rw (c .before .before .before .before .before .before .before .before .before .before .before .before .before .before .before .before .before .before .before .before .before .before .before .wire-parent .ensures) (above-below (s .args .nodes .now) (s .args .wires .now) (s .args .jumpers .now) (s .args .stage) (s .pre .0) (s .args .i) (s .pre .1 .0 .0) (s .args .e) (s .args .end) (s .pre .1 .0 .1) (s .pre .1 .1 .1) (sym (c .before .before .before .before .before .before .before .before .before .before .before .before .before .before .before .before .before .before .before .before .before .before .before .before .before .is-present .ensures) ∙ not-false _ (c .before .before .before .before .before .before .before .before .before .before .before .before .before .before .before .before .before .before .before .before .before .before .before .before .if1 .left))) in 
+    let ab : getD (s .args .lowest .now) (c .before .before .before .before .before .before .before .before .before .before .before .before .before .before .before .before .before .before .before .before .before .before .before .wire-parent .result) 0 < s .args .i = rw (c .before .before .before .before .before .before .before .before .before .before .before .before .before .before .before .before .before .before .before .before .before .before .before .wire-parent .ensures) (above-below (s .args .nodes .now) (s .args .wires .now) (s .args .jumpers .now) (s .args .stage) (s .pre .0) (s .args .i) (s .pre .1 .0 .0) (s .args .e) (s .args .end) (s .pre .1 .0 .1) (s .pre .1 .1 .1) (sym (c .before .before .before .before .before .before .before .before .before .before .before .before .before .before .before .before .before .before .before .before .before .before .before .before .before .is-present .ensures) ∙ not-false _ (c .before .before .before .before .before .before .before .before .before .before .before .before .before .before .before .before .before .before .before .before .before .before .before .before .if1 .left))) in
     let m = s .pre .1 .1 .0 .0 in
     let len = c .before .before .before .before .before .before .before .before .before .before .before .before .before .before .before .before .before .before .before .before .before .length-of .ensures in
     let first : c .before .before .before .before .before .before .before .before .before .before .entry-position .result < 65536 = omega (arith, r .first (omega (arith, s .pre .1 .0 .1 .ordered, c .before .before .before .before .before .before .before .before .before .before .before .before .before .before .before .before .before .before .if2 .left)), len .0, len .1, c .before .before .before .before .before .before .before .before .before .before .entry-position .ensures) in
@@ -134,7 +134,7 @@ same-length-10 : tie.Need-same-length-10
 same-length-10 c = search needs
 
 returns-3 : tie.Need-returns-3
-returns-3 c = 
+returns-3 c =
     let s = c .before .before .before .before .before .before .before .before .before .before .before .before .before .before .before .before .before .before .before .before .before .before .before .before .before .before .before .before .before .before .before .before .before .before .before .before .before .before .before in
     let r = ready (s .args .nodes .now) (s .args .wires .now) (s .args .jumpers .now) (s .args .stage) (s .pre .0) (s .args .i) (s .pre .1 .0 .0) (s .args .e) (s .args .end) (s .pre .1 .0 .1) (sym (c .before .before .before .before .before .before .before .before .before .before .before .before .before .before .before .before .before .before .before .before .before .before .before .before .before .before .before .before .before .before .is-present .ensures) ∙ not-false _ (c .before .before .before .before .before .before .before .before .before .before .before .before .before .before .before .before .before .before .before .before .before .before .before .before .before .before .before .before .before .if1 .left)) in
     let len = c .before .before .before .before .before .before .before .before .before .before .before .before .before .before .before .before .before .before .before .before .before .before .before .before .before .before .length-of .ensures in
@@ -144,7 +144,7 @@ returns-3 c =
       λ os j.
           step-cut (s .args .nodes .now) (s .args .wires .now) (s .args .jumpers .now) os (s .args .stage) j (s .args .i) (s .pre .1 .0 .0) (s .pre .1 .1 .1 os j) (s .args .e) (s .args .end) (s .pre .1 .0 .1) (sym (c .before .before .before .before .before .before .before .before .before .before .before .before .before .before .before .before .before .before .before .before .before .before .before .before .before .before .before .before .before .before .is-present .ensures) ∙ not-false _ (c .before .before .before .before .before .before .before .before .before .before .before .before .before .before .before .before .before .before .before .before .before .before .before .before .before .before .before .before .before .if1 .left)) (getD (s .args .lowest .now) (c .before .before .before .before .before .before .before .before .before .before .before .before .before .before .before .before .before .before .before .before .before .before .before .before .before .before .before .before .wire-parent .result) 0) (c .before .before .before .before .before .before .before .before .before .before .before .before .before .before .before .before .before .before .before .before .before .before .before .before .before .before .before .before .before .before .before .node-flags .result) (c .before .before .before .before .before .before .before .before .before .before .before .before .before .before .before .before .before .before .before .before .before .before .before .before .before .before .length-of .result) (c .before .before .before .before .before .before .before .before .before .before .before .before .before .before .before .before .before .before .before .before .before .before .before .before .before .wire-factor .result) (c .before .before .before .before .before .before .before .before .before .before .before .before .before .before .before .before .before .before .before .before .before .before .before .before .wire-layer .result) (rw (c .before .before .before .before .before .before .before .before .before .before .before .before .before .before .before .before .before .before .before .before .before .before .before .before .before .before .before .before .wire-parent .ensures)) (c .before .before .before .before .before .before .before .before .before .before .before .before .before .before .before .before .before .before .before .before .before .before .before .before .before .before .before .before .before .before .before .node-flags .ensures) (c .before .before .before .before .before .before .before .before .before .before .before .before .before .before .before .before .before .before .before .before .before .before .before .before .before .before .length-of .ensures .0) (c .before .before .before .before .before .before .before .before .before .before .before .before .before .before .before .before .before .before .before .before .before .before .before .before .before .wire-factor .ensures) (c .before .before .before .before .before .before .before .before .before .before .before .before .before .before .before .before .before .before .before .before .before .before .before .before .wire-layer .ensures) cut (c .before .before .before .before .before .before .before .before .before .before .before .before .before .before .before .entry-position .result) (c .before .before .before .before .before .before .before .before .before .before .before .before .before .before .entry-position2 .result) (c .before .before .before .before .before .before .before .before .before .before .before .before .before .before .before .entry-position .ensures) (c .before .before .before .before .before .before .before .before .before .before .before .before .before .before .entry-position2 .ensures) (c .before .before .before .before .before .before .before .before .before .before .before .before .before .before .before .before .before .before .before .before .name-node3 .ensures) (c .before .before .before .before .before .before .before .before .before .before .before .add-steps2 .ensures) (c .before .before .before .before .add-steps3 .ensures),
       at-more (s .args .i * 33554432 + 16777216 + 16777216) ((s .args .i + 1) * 33554432) (c .before .before .before .before .add-steps3 .last .0) (omega arith)
-      (added-small (s .args .i * 33554432 + 16777216) _ (c .before .before .before .before .before .before .before .before .before .before .before .before .before .before .before .before .before .before .before .before .before .before .before .before .before .before .length-of .result - c .before .before .before .before .before .before .before .before .before .before .before .before .before .before .entry-position2 .result) (c .before .before .before .before .before .before .before .before .before .before .before .before .before .before .before .before .before .before .before .before .before .before .before .before .before .wire-factor .result) (c .before .before .before .before .before .before .before .before .before .before .before .before .before .before .before .before .before .before .before .before .before .before .before .before .wire-layer .result) w (c .before .before .before .before .add-steps3 .ensures) (omega (arith, len .1)) (omega (arith, c .before .before .before .before .before .before .before .before .before .before .before .before .before .before .before .before .before .before .before .before .before .before .before .before .before .wire-factor .ok))),
+          (added-small (s .args .i * 33554432 + 16777216) _ (c .before .before .before .before .before .before .before .before .before .before .before .before .before .before .before .before .before .before .before .before .before .before .before .before .before .before .length-of .result - c .before .before .before .before .before .before .before .before .before .before .before .before .before .before .entry-position2 .result) (c .before .before .before .before .before .before .before .before .before .before .before .before .before .before .before .before .before .before .before .before .before .before .before .before .before .wire-factor .result) (c .before .before .before .before .before .before .before .before .before .before .before .before .before .before .before .before .before .before .before .before .before .before .before .before .wire-layer .result) w (c .before .before .before .before .add-steps3 .ensures) (omega (arith, len .1)) (omega (arith, c .before .before .before .before .before .before .before .before .before .before .before .before .before .before .before .before .before .before .before .before .before .before .before .before .before .wire-factor .ok))),
       omega (arith, r .few, len .0, len .1),
     )
 

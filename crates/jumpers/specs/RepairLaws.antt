@@ -1,0 +1,131 @@
+-- From the passes of repair to its promise: what each pass requires follows from those before it, and all together give a smallest legal set or show that there is none.
+-- Assumes nothing.
+use Prim.Native.Nat.{ℕ, _+_, _*_, _^_, _≤_, _<_}
+use mathlib.Core.Path.{_≡_, refl, sym, _∙_, ap}
+use mathlib.Core.Bool.{Bool, true, false, not, _&&_}
+use mathlib.Core.List.{List}
+use lib.ListN.{length, getD}
+use lib.Dec.{leb, ltb}
+use native.Mathlib.Omega.{arith}
+use borrow.Author.Tests.{ltb-true, lt-ltb}
+use Rattle.laws.specs.Sums.{by, and-left, χ-yes, sum-ap}
+use Rattle.laws.specs.Sum.{χ, sum}
+use Rattle.net.specs.Net.{nodeCount, wireFactor, wireLength, barred}
+use Rattle.net.specs.Stage.{Stage, Formed, stageOf}
+use Rattle.net.specs.Accepted.{NetRight, formed}
+use Rattle.points.specs.Geometry.{checked-of}
+use Rattle.pieces.specs.Legal.{Smallest, NoneLegal}
+use Rattle.cuts.specs.Cluster.{Clusters, Sound}
+use Rattle.cuts.specs.Passes.{Down, Up, Counted, Run, total}
+use Rattle.cuts.specs.Fits.{Fits, freeAt}
+use Rattle.cuts.specs.Bounds.{allWeight, cluster-bounded}
+use Rattle.cuts.specs.OtherFree.{withFree, sound-free, counted-free}
+use Rattle.cuts.specs.BridgeFits.{sound-of-fits}
+use Rattle.cuts.specs.BridgeRun.{hopeless-none}
+use Rattle.jumpers.specs.Arrays.{clustersOf, downOf, upOf}
+use Rattle.jumpers.specs.Climb.{openAt}
+use Rattle.jumpers.specs.Count.{workClusters, Ready, Hopeless, rootSum}
+use Rattle.jumpers.specs.Choose.{Chooses, Choosable}
+use Rattle.jumpers.specs.ChooseLaws.{chosen-of}
+use Rattle.jumpers.specs.Listing.{listOf, countOf}
+use Rattle.jumpers.specs.ListingPoints.{Listable}
+use Rattle.jumpers.specs.ListingSmallest.{listable, smallest-list, count-is-total}
+
+-- what both passes leave for the writer of the list: its entries are those of a smallest legal set
+pub record Planned (s : Stage) (limit : ℕ) (hi near : List ℕ) (high : List Bool) (points : ℕ) : Type 0 where
+  pub smallest : Smallest s limit (listOf (s .nodes) hi near high) (countOf (s .nodes) near high)
+  pub listing : Listable (s .nodes) hi near high
+  pub points-is : points ≡ countOf (s .nodes) near high
+
+module _ (ns ws os : List ℕ) (k : ℕ) (right : NetRight ns ws os) (lo hi host fixed gates : List ℕ) (root component : ℕ → ℕ)
+    (fits : Fits (stageOf ns ws os k) (clustersOf (stageOf ns ws os k) lo hi host fixed gates) root component) where
+  is-formed : Formed (stageOf ns ws os k)
+  is-formed = formed ns ws os right k
+
+  -- a cuttable wire is present, so its free points are its open ones
+  same-free : (j t : ℕ) → j < nodeCount ns → ltb 0 (getD lo j 0) ≡ true → freeAt (stageOf ns ws os k) j t ≡ openAt ns ws os j t
+  unfolding freeAt openAt clustersOf stageOf
+  same-free j t p cut =
+      rw (and-left (stageOf ns ws os k .present j) (leb 1 (getD lo j 0) && (ltb (getD lo j 0) (wireLength ns ws j) && not (barred ns ws os j (getD lo j 0)))) (fits .lo-free j p cut))
+
+  sound-work : Sound (workClusters (nodeCount ns) ns ws os lo hi host fixed gates)
+  unfolding workClusters clustersOf stageOf
+  sound-work =
+      sound-free (workClusters (nodeCount ns) ns ws os lo hi host fixed gates) (λ i t. freeAt (stageOf ns ws os k) i t) same-free
+      (sound-of-fits (stageOf ns ws os k) (clustersOf (stageOf ns ws os k) lo hi host fixed gates) root component is-formed fits)
+
+  -- what the pass down requires
+  pub ready-of :
+      allWeight (clustersOf (stageOf ns ws os k) lo hi host fixed gates) < 2 ^ 48 →
+      nodeCount ns ≤ length lo → nodeCount ns ≤ length hi → nodeCount ns ≤ length host → nodeCount ns ≤ length fixed → nodeCount ns ≤ length gates →
+      Ready (nodeCount ns) ns ws os lo hi host fixed gates
+  unfolding allWeight workClusters clustersOf stageOf
+  ready-of light a b c d e =
+      record {
+        sound = sound-work;
+        few = omega (arith, right .sized .few-nodes);
+        light = light;
+        checked = λ j p q. checked-of right j p q;
+        factor = λ j p q. right .wire j p q .factor-low;
+        los = a;
+        his = b;
+        hosts = c;
+        fixeds = d;
+        gate-counts = e;
+      }
+
+  -- a hopeless cluster: 15
+  pub none-of : (limit : ℕ) → Hopeless (nodeCount ns) fixed gates limit → NoneLegal (stageOf ns ws os k) limit
+  unfolding clustersOf stageOf
+  none-of limit h =
+      hopeless-none (stageOf ns ws os k) (clustersOf (stageOf ns ws os k) lo hi host fixed gates) root component is-formed fits limit (h .at) (h .inside) (h .gated) (h .heavy)
+
+  module _ (limit : ℕ) (light : allWeight (clustersOf (stageOf ns ws os k) lo hi host fixed gates) < 2 ^ 48) (short : (r : ℕ) → r < nodeCount ns → getD hi r 0 < 65536)
+      (cut : List Bool) (fewest : List ℕ) (any : List Bool) (anyWeight : List ℕ) (quiet : List Bool) (quietWeight count lightest : List ℕ)
+      (ungatable : List Bool) (ungated near : List ℕ)
+      (worked : Counted (workClusters (nodeCount ns) ns ws os lo hi host fixed gates) limit (downOf cut fewest any anyWeight quiet quietWeight count lightest ungatable ungated near) 0) where
+    counted : Counted (clustersOf (stageOf ns ws os k) lo hi host fixed gates) limit (downOf cut fewest any anyWeight quiet quietWeight count lightest ungatable ungated near) 0
+    unfolding workClusters clustersOf stageOf
+    counted =
+        counted-free (workClusters (nodeCount ns) ns ws os lo hi host fixed gates) (λ i t. freeAt (stageOf ns ws os k) i t) same-free worked
+
+    is-sound : Sound (clustersOf (stageOf ns ws os k) lo hi host fixed gates)
+    is-sound = sound-of-fits (stageOf ns ws os k) (clustersOf (stageOf ns ws os k) lo hi host fixed gates) root component is-formed fits
+
+    weight-light : (r : ℕ) → r < nodeCount ns → getD anyWeight r 0 < 2 ^ 48
+    unfolding clustersOf stageOf downOf
+    weight-light r p =
+        let b = cluster-bounded (clustersOf (stageOf ns ws os k) lo hi host fixed gates) limit (downOf cut fewest any anyWeight quiet quietWeight count lightest ungatable ungated near) is-sound 0 counted r (omega arith) p in
+        omega (arith, light, b)
+
+    -- what the pass up requires
+    pub choosable-of : Choosable (nodeCount ns) ws lo hi host anyWeight
+    unfolding clustersOf stageOf
+    choosable-of =
+        record {
+          stored = λ r p. omega (arith, right .sized .wires-length);
+          below = λ r p c. is-sound .host-below r p (lt-ltb 0 (getD lo r 0) c);
+          ordered = λ r p c. is-sound .lo-least r (getD hi r 0) p (lt-ltb 0 (getD lo r 0) c) (is-sound .hi-free r p (lt-ltb 0 (getD lo r 0) c));
+          short = short;
+          light = weight-light;
+        }
+
+    -- both passes: the list of the chosen points is that of a smallest legal set, and has as many entries as were counted
+    module _ (mode high : List Bool) (chose : (r : ℕ) → r < nodeCount ns → Chooses ws lo hi host cut any anyWeight ungatable near limit mode high r) where
+      run : Run (clustersOf (stageOf ns ws os k) lo hi host fixed gates) limit (downOf cut fewest any anyWeight quiet quietWeight count lightest ungatable ungated near) (upOf mode high)
+      unfolding clustersOf stageOf
+      run =
+          record {
+            counted = counted;
+            chosen = λ r p.
+                chosen-of ws lo hi host cut any anyWeight ungatable near limit (stageOf ns ws os k) fixed gates fewest quiet quietWeight count lightest ungated mode high r refl (chose r p);
+          }
+
+      pub planned : (points : ℕ) → points ≡ rootSum (nodeCount ns) lo fewest → Planned (stageOf ns ws os k) limit hi near high points
+      unfolding clustersOf stageOf downOf total rootSum
+      planned points e =
+          record {
+            smallest = smallest-list (stageOf ns ws os k) root component limit lo hi host fixed gates cut fewest any anyWeight quiet quietWeight count lightest ungatable ungated near mode high is-formed fits run short;
+            listing = listable (stageOf ns ws os k) root component limit lo hi host fixed gates cut fewest any anyWeight quiet quietWeight count lightest ungatable ungated near mode high is-formed fits run short;
+            points-is = e ∙ sym (count-is-total (stageOf ns ws os k) root component limit lo hi host fixed gates cut fewest any anyWeight quiet quietWeight count lightest ungatable ungated near mode high is-formed fits run short);
+          }
