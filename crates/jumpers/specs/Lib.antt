@@ -24,3 +24,4 @@ pub mod ScanLaws
 pub mod ScanEnds
 pub mod ScanWeights
 pub mod ScanFits
+pub mod CountReady
