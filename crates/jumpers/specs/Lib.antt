@@ -24,4 +24,3 @@ pub mod ScanLaws
 pub mod ScanEnds
 pub mod ScanWeights
 pub mod ScanFits
-pub mod CountReady

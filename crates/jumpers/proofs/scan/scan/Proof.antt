@@ -210,10 +210,7 @@ returns c =
       weighed = f .weigh-clusters .ensures;
     } in (
       scan-fits (now (a .nodes)) (now (a .wires)) (now (a .obstacles)) (a .stage) (s .pre .0) (Lo t) (Hi t) (Root r) (Host h) (Component k) (Marks m) (Fixed f) (Gates g) scanned,
-      (
-        scan-light (now (a .nodes)) (now (a .wires)) (now (a .obstacles)) (a .stage) (s .pre .0) nodes wires (Lo t) (Hi t) (Root r) (Host h) (Component k) (Marks m) (Fixed f) (Gates g) scanned,
-        t .find-cuttable .ensures,
-      ),
+      scan-light (now (a .nodes)) (now (a .wires)) (now (a .obstacles)) (a .stage) (s .pre .0) nodes wires (Lo t) (Hi t) (Root r) (Host h) (Component k) (Marks m) (Fixed f) (Gates g) scanned,
     )
 
 pub scan-spec : {M : Type 1} → statement M
