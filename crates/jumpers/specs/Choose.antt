@@ -2,7 +2,7 @@
 -- Assumes nothing.
 use Prim.Native.Nat.{ℕ, _+_, _*_, _^_, _≤_, _<_}
 use mathlib.Core.Path.{_≡_}
-use mathlib.Core.Bool.{Bool, true, false, not, _&&_, _||_, cond}
+use mathlib.Core.Bool.{Bool, false, not, _&&_, _||_, cond}
 use mathlib.Core.List.{List}
 use lib.ListN.{length, getD}
 use lib.Dec.{leb, ltb}

@@ -1,13 +1,13 @@
 -- One turn of the pass up, and what its arrays say of the clusters.
 -- Assumes nothing.
 use Prim.Native.Nat.{ℕ, _+_, _≤_, _<_}
-use mathlib.Core.Path.{_≡_, refl, sym, _∙_, ap}
-use mathlib.Core.Bool.{Bool, true, false, not, _&&_, _||_, cond}
+use mathlib.Core.Path.{_≡_, sym, _∙_, ap}
+use mathlib.Core.Bool.{Bool, false, not}
 use mathlib.Core.List.{List}
 use native.Mathlib.Omega.{arith}
 use lib.ListN.{length, getD, set}
 use lib.Seq.{getD-set-same, getD-set-other}
-use lib.Dec.{eqb, ltb}
+use lib.Dec.{eqb}
 use borrow.Author.Tests.{ltb-true, eqb-true, eqb-false}
 use Rattle.laws.specs.Sums.{by}
 use Rattle.net.specs.Stage.{Stage}
@@ -15,7 +15,7 @@ use Rattle.net.specs.Net.{wireFactor}
 use Rattle.cuts.specs.Passes.{Chosen}
 use Rattle.jumpers.specs.Arrays.{clustersOf, downOf, upOf}
 use Rattle.jumpers.specs.Scan.{cuttable}
-use Rattle.jumpers.specs.Choose.{cutHere, anyHere, fitsWhole, Chooses}
+use Rattle.jumpers.specs.Choose.{cutHere, anyHere, Chooses}
 
 module _ (ws lo hi host : List ℕ) (cut ok : List Bool) (weight : List ℕ) (ungatable : List Bool) (near : List ℕ) (limit : ℕ) where
   -- a store at a node above the host changes neither

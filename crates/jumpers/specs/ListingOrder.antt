@@ -4,16 +4,15 @@ use Prim.Native.Nat.{ℕ, zero, suc, _+_, _*_, _/_, _%_, _≤_, _<_}
 use mathlib.Core.Path.{_≡_, refl, sym, _∙_, ap}
 use mathlib.Core.Bool.{Bool, true, false, _&&_, _||_, cond}
 use mathlib.Core.Logic.{_⊎_, inl, inr, ⊎-elim}
-use mathlib.Core.List.{List, [], _∷_, _++_, append-assoc, append-nil}
+use mathlib.Core.List.{List, [], _++_, append-nil}
 use native.Mathlib.Omega.{arith}
 use native.Mathlib.Nat.{mod-eq-of-lt, div-add-mod, div-lt-iff-lt-mul, add-zero}
 use native.Mathlib.Numerals.{add-one}
-use lib.Dec.{ltb, eqb, lit<}
+use lib.Dec.{eqb, lit<}
 use lib.ListN.{length, getD, length-append, List·getD-append}
 use lib.Seq.{getD-append-add}
 use Rattle.laws.specs.Sum.{χ, any}
 use Rattle.laws.specs.Sums.{last-or-below}
-use Rattle.laws.specs.Bytes.{le16}
 use Rattle.net.specs.Layout.{entryBytes}
 use Rattle.pieces.specs.Legal.{entryWire, entryPosition, listed, Rises, by-wire, by-position}
 use Rattle.jumpers.specs.Listing.{entry, entryIf}

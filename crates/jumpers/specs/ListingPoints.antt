@@ -1,20 +1,19 @@
 -- The list of the wires below n rises, and its set has each wire's own jumper and its highest cuttable point where it is cut there.
 -- Assumes nothing.
-use Prim.Native.Nat.{ℕ, zero, suc, _+_, _*_, _≤_, _<_}
-use mathlib.Core.Path.{_≡_, refl, sym, _∙_, ap}
-use mathlib.Core.Bool.{Bool, true, false, not, _&&_, _||_, cond}
-use mathlib.Core.List.{List, [], _∷_, _++_, append-assoc}
+use Prim.Native.Nat.{ℕ, zero, suc, _+_, _≤_, _<_}
+use mathlib.Core.Path.{_≡_, refl, _∙_, ap}
+use mathlib.Core.Bool.{Bool, true, false, _&&_, _||_, cond}
+use mathlib.Core.List.{List, _++_, append-assoc}
 use native.Mathlib.Omega.{arith}
 use native.Mathlib.Nat.{add-assoc}
 use lib.Dec.{ltb, eqb}
-use lib.ListN.{length, getD}
-use borrow.Author.Tests.{eq-eqb, ne-eqb, eqb-true, eqb-false, ltb-true, lt-ltb, le-ltb, ltb-false}
+use lib.ListN.{getD}
+use borrow.Author.Tests.{eqb-true, eqb-false, ltb-true, lt-ltb, le-ltb, ltb-false}
 use Rattle.laws.specs.Sum.{χ, sum, any}
 use Rattle.laws.specs.Sums.{by}
 use Rattle.laws.specs.Gather.{gather}
-use Rattle.net.specs.Layout.{entryBytes}
 use Rattle.pieces.specs.Legal.{listed}
-use Rattle.jumpers.specs.Listing.{entryIf, wireEntries, wireCount, listOf, countOf}
+use Rattle.jumpers.specs.Listing.{entryIf, listOf, countOf}
 use Rattle.jumpers.specs.ListingOrder.{Ahead, ahead-none, ahead-wire, ahead-if, listed-if}
 
 -- the positions of the wires below n have 16 bits, and a wire's own jumper lies below its highest cuttable point where it is cut there too
@@ -27,7 +26,7 @@ pub record Listable (n : ℕ) (hi near : List ℕ) (high : List Bool) : Type 0 w
 abbrev pub pointAt : List ℕ → List ℕ → List Bool → ℕ → ℕ → Bool
 pointAt hi near high r t = (ltb 0 (getD near r 0) && eqb (getD near r 0) t) || (getD high r false && eqb (getD hi r 0) t)
 
--- a test on two numbers, and on both in the other order
+-- a wire other than n is below n + 1 where it is below n
 no-more : (i n : ℕ) → eqb n i ≡ false → ltb i (suc n) ≡ ltb i n
 no-more i n z =
     let ne = eqb-false n i z in

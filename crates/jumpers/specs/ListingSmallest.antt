@@ -1,14 +1,13 @@
 -- The list of the points that both passes chose is the list of a smallest legal set.
 -- Assumes nothing.
-use Prim.Native.Nat.{ℕ, suc, _+_, _*_, _≤_, _<_}
-use mathlib.Core.Path.{_≡_, refl, sym, _∙_, ap}
-use mathlib.Core.Bool.{Bool, true, false, not, _&&_, _||_, cond}
+use Prim.Native.Nat.{ℕ, _<_}
+use mathlib.Core.Path.{_≡_, refl, _∙_}
+use mathlib.Core.Bool.{Bool, true, false, _&&_, _||_, cond}
 use mathlib.Core.List.{List}
 use native.Mathlib.Omega.{arith}
 use lib.Dec.{ltb, eqb}
 use lib.ListN.{getD}
 use borrow.Author.Tests.{ltb-true, ltb-false, le-ltb}
-use Rattle.laws.specs.Sum.{χ, sum}
 use Rattle.laws.specs.Sums.{by, sum-ap}
 use Rattle.net.specs.Stage.{Stage, Formed}
 use Rattle.pieces.specs.Legal.{Smallest, listed}
@@ -21,9 +20,8 @@ use Rattle.cuts.specs.BridgeFits.{sound-of-fits}
 use Rattle.cuts.specs.BridgeRun.{smallest-of-run}
 use Rattle.cuts.specs.BridgeWeight.{eqb-sym}
 use Rattle.jumpers.specs.Arrays.{clustersOf, downOf, upOf}
-use Rattle.jumpers.specs.Listing.{wireCount, listOf, countOf}
+use Rattle.jumpers.specs.Listing.{listOf, countOf}
 use Rattle.jumpers.specs.ListingWriting.{length-listOf}
-use Rattle.jumpers.specs.ListingOrder.{Ahead}
 use Rattle.jumpers.specs.ListingPoints.{Listable, pointAt, list-ahead, list-points}
 
 -- one or two points of a wire: each by its test, or the lowest and the highest of them

@@ -1,14 +1,14 @@
 -- Lengths of entries, and one wire more, as the list's writer goes through the wires.
 -- Assumes nothing.
-use Prim.Native.Nat.{ℕ, zero, suc, _+_, _*_, _≤_, _<_}
-use mathlib.Core.Path.{_≡_, refl, sym, _∙_, ap}
+use Prim.Native.Nat.{ℕ, _+_, _*_, _≤_, _<_}
+use mathlib.Core.Path.{_≡_, refl, _∙_}
 use mathlib.Core.Bool.{Bool, true, false}
-use mathlib.Core.List.{List, [], _++_}
+use mathlib.Core.List.{List, _++_}
 use native.Mathlib.Omega.{arith}
 use native.Mathlib.Numerals.{add-one}
 use lib.ListN.{length, getD, length-append}
 use lib.Dec.{ltb}
-use Rattle.laws.specs.Sum.{χ, sum}
+use Rattle.laws.specs.Sum.{χ}
 use Rattle.laws.specs.Sums.{sum-ap, sum-mul, sum-next, sum-next-≤}
 use Rattle.laws.specs.Gather.{gather}
 use Rattle.laws.specs.Gathers.{length-gather}

@@ -1,8 +1,8 @@
 // The pass up: the option that each cluster takes, and the branches cut at their highest cuttable point.
 use crate::climb::stretch_weight;
 ghost use mathlib.Core.Path.{_≡_};
-ghost use mathlib.Core.Bool.{Bool, true, false, _&&_, _||_};
-ghost use Prim.Native.Nat.{ℕ, _+_, _*_, _^_, _<_, _≤_};
+ghost use mathlib.Core.Bool.{_&&_, _||_};
+ghost use Prim.Native.Nat.{ℕ, _*_, _^_, _<_, _≤_};
 ghost use lib.ListN.{length, getD};
 ghost use Rattle.net.specs.Layout.{wireBytes};
 ghost use Rattle.jumpers.specs.Choose.{cutHere, fitsWhole, anyHere, Chooses, Choosable};

@@ -1,7 +1,7 @@
 // The jumper list of the chosen points.
 use net::layout::ENTRY_BYTES;
 ghost use mathlib.Core.Path.{_≡_};
-ghost use Prim.Native.Nat.{ℕ, _+_, _*_, _<_, _≤_};
+ghost use Prim.Native.Nat.{ℕ, _*_, _<_, _≤_};
 ghost use lib.ListN.{length, getD};
 ghost use Rattle.laws.specs.Lists.{over};
 ghost use Rattle.laws.specs.Sum.{χ};

@@ -3,7 +3,7 @@
 use Prim.Native.Nat.{ℕ, _-_, _≤_, _<_}
 use mathlib.Core.Path.{_≡_, _∙_}
 use native.Mathlib.Omega.{arith}
-use lib.ListN.{length, getD, length-set}
+use lib.ListN.{length, length-set}
 use denote.Ref.{now}
 use Rattle.jumpers.specs.Choose.{Chooses}
 use Rattle.jumpers.specs.ChooseLaws.{chooses-more}

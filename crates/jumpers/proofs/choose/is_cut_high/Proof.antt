@@ -1,6 +1,5 @@
 -- `jumpers::choose::is_cut_high` meets its contract.
 -- Assumes nothing.
-use Prim.Native.Nat.{_<_}
 use native.Mathlib.Omega.{arith}
 use lib.ListN.{getD}
 use denote.Ref.{now}

@@ -1,6 +1,5 @@
 -- `jumpers::choose::takes_any` meets its contract.
 -- Assumes nothing.
-use borrow.Author.Needs.{needs}
 use Rattle.jumpers.proofs.choose.takes_any.Statement.{statement}
 use Rattle.jumpers.proofs.choose.takes_any.Tie as tie
 

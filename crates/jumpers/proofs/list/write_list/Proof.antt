@@ -1,6 +1,6 @@
 -- `jumpers::list::write_list` meets its contract: below r every wire's entries are written, one behind the other.
 -- Assumes nothing.
-use Prim.Native.Nat.{ℕ, _+_, _*_, _-_, _≤_, _<_}
+use Prim.Native.Nat.{ℕ, _+_, _*_, _-_, _≤_}
 use mathlib.Core.Path.{_≡_, refl, sym, _∙_, ap}
 use mathlib.Core.Bool.{false}
 use mathlib.Core.List.{List}
@@ -8,7 +8,7 @@ use native.Mathlib.Omega.{arith}
 use lib.ListN.{length, getD}
 use denote.Ref.{now}
 use borrow.Author.Needs.{needs}
-use Rattle.laws.specs.Lists.{over, over-lent, length-over}
+use Rattle.laws.specs.Lists.{over, over-lent}
 use Rattle.laws.specs.Sum.{sum}
 use Rattle.laws.specs.Gather.{gather}
 use Rattle.jumpers.specs.Listing.{listOf, countOf, wireCount, wireEntries}
