@@ -8,7 +8,7 @@ use lib.Dec.{leb, ltb}
 use Rattle.net.specs.Net.{wireFactor, wireLength, barred}
 use Rattle.points.specs.Cuttable.{Checked}
 use Rattle.cuts.specs.Cluster.{Clusters}
-use Rattle.cuts.specs.Passes.{Down, Climbed}
+use Rattle.cuts.specs.Passes.{Down}
 
 -- position t lies inside wire i, and no obstacle holds it
 unfoldable pub openAt : List ℕ → List ℕ → List ℕ → ℕ → ℕ → Bool

@@ -1,16 +1,16 @@
 -- Why the highest open position up to a bound is the last within the limit, and the endings of a climb.
 -- Assumes nothing.
 use Prim.Native.Nat.{ℕ, _+_, _-_, _*_, _/_, _≤_, _<_}
-use mathlib.Core.Path.{_≡_, refl, sym, _∙_, ap}
-use mathlib.Core.Bool.{Bool, true, false, not, _&&_, cond}
+use mathlib.Core.Path.{_≡_, refl}
+use mathlib.Core.Bool.{true, false, not, _&&_}
 use mathlib.Core.List.{List}
 use native.Mathlib.Omega.{arith}
-use native.Mathlib.Nat.{mul-div-le, lt-mul-div-succ, mul-lt-mul-of-pos-left, mul-le-mul-left, lt-of-mul-lt-mul-left}
+use native.Mathlib.Nat.{mul-div-le, lt-mul-div-succ, mul-le-mul-left, lt-of-mul-lt-mul-left}
 use lib.Dec.{leb, ltb}
 use borrow.Author.Tests.{leb-true, ltb-true, le-leb, lt-ltb, lt-leb, not-true}
 use Rattle.laws.specs.Sums.{by, no-both, and-left, and-right}
 use Rattle.net.specs.Net.{wireFactor, wireLength, barred}
-use Rattle.points.specs.Cuttable.{Checked, Highest}
+use Rattle.points.specs.Cuttable.{Highest}
 use Rattle.cuts.specs.Passes.{Climbed, without-gate, within-limit, with-jumper}
 use Rattle.jumpers.specs.Climb.{openAt, Branch, stretchWeight, LastWithin, wireOf, climbingOf}
 

@@ -2,7 +2,7 @@
 -- Assumes nothing.
 use Prim.Native.Nat.{ℕ, _+_, _-_, _≤_, _<_}
 use mathlib.Core.Path.{_≡_, refl, sym, _∙_, ap}
-use mathlib.Core.Logic.{_⊎_, inl, inr, ⊎-elim, _≢_}
+use mathlib.Core.Logic.{⊎-elim, _≢_}
 use mathlib.Core.Bool.{Bool, true, false, not, _&&_}
 use mathlib.Core.List.{List}
 use native.Mathlib.Omega.{arith}
@@ -11,7 +11,7 @@ use lib.Seq.{getD-set-same, getD-set-other}
 use lib.Dec.{eqb}
 use borrow.Author.Tests.{eqb-true, eqb-false, eq-eqb}
 use Rattle.laws.specs.Sum.{χ, sum}
-use Rattle.laws.specs.Sums.{by, no-both, and-left, and-right, χ-yes, sum-ap, sum-+, sum-zero, sum-pick, term-≤}
+use Rattle.laws.specs.Sums.{by, no-both, χ-yes, sum-ap, sum-+, sum-zero, sum-pick, term-≤}
 use Rattle.jumpers.specs.Close.{hung, branchSum, flaggedCount, clearSum, Uncut, Heaviest, Cutting}
 use Rattle.jumpers.specs.CloseSums.{χ-both, χ-first, χ-second, not-yes, not-no}
 

@@ -1,15 +1,13 @@
 -- The endings of a cluster's closing, from the numbers that its loops found.
 -- Assumes nothing.
 use Prim.Native.Nat.{ℕ, _+_, _≤_, _<_}
-use mathlib.Core.Path.{_≡_, refl, sym, _∙_, ap}
-use mathlib.Core.Logic.{_⊎_, inl, inr}
+use mathlib.Core.Path.{_≡_, refl}
+use mathlib.Core.Logic.{_⊎_}
 use mathlib.Core.Bool.{Bool, true, false}
 use mathlib.Core.List.{List}
 use native.Mathlib.Omega.{arith}
-use lib.ListN.{length, getD}
-use Rattle.laws.specs.Sum.{χ, sum}
 use Rattle.cuts.specs.Passes.{Largest, Closed, only-any, both, only-ungated}
-use Rattle.jumpers.specs.Close.{hung, branchSum, flaggedCount, flaggedSum, clearCount, clearSum, Cutting, branchesOf, closingOf}
+use Rattle.jumpers.specs.Close.{branchSum, flaggedCount, flaggedSum, clearCount, clearSum, Cutting, branchesOf, closingOf}
 
 module _ (n : ℕ) (lo host count lightest : List ℕ) (ungatable : List Bool) (ungated : List ℕ) (before cut : List Bool) (r fixed gates limit : ℕ) where
   module _ (fewest : ℕ) (anyOk : Bool) (anyWeight : ℕ) (ungatedOk : Bool) (ungatedWeight : ℕ) where

@@ -1,18 +1,17 @@
 -- Laws of a cluster's sums over its branches, one turn of a loop at a time.
 -- Assumes nothing.
 use Prim.Native.Nat.{ℕ, _+_, _≤_, _<_}
-use mathlib.Core.Path.{_≡_, refl, sym, _∙_, ap}
-use mathlib.Core.Logic.{_⊎_, inl, inr, ⊎-elim, _≢_}
+use mathlib.Core.Path.{_≡_, refl, ap}
+use mathlib.Core.Logic.{inl, inr, ⊎-elim}
 use mathlib.Core.Bool.{Bool, true, false, not, _&&_}
 use mathlib.Core.List.{List}
 use native.Mathlib.Omega.{arith}
-use lib.ListN.{length, getD, set, length-set}
-use lib.Seq.{getD-set-same, getD-set-other}
+use lib.ListN.{getD}
 use lib.Dec.{ltb, eqb}
-use borrow.Author.Tests.{ltb-true, ltb-false, lt-ltb, le-ltb, eqb-true, eqb-false}
+use borrow.Author.Tests.{ltb-true, ltb-false, eqb-true, eqb-false}
 use Rattle.laws.specs.Sum.{χ, sum}
-use Rattle.laws.specs.Sums.{tf, by, no-both, and-left, and-right, and-intro, last-or-below, χ-yes, χ-no, χ-≤, sum-ap, sum-≤, sum-+, sum-zero, sum-bound, sum-pick, term-≤, sum-next, sum-next-≤}
-use Rattle.jumpers.specs.Close.{hung, branchSum, flaggedCount, flaggedSum, clearCount, clearSum, heavierThan, Uncut, Heaviest, Cutting}
+use Rattle.laws.specs.Sums.{by, and-left, and-right, χ-yes, χ-no, χ-≤, sum-bound, sum-next, sum-next-≤}
+use Rattle.jumpers.specs.Close.{hung, branchSum, flaggedCount, flaggedSum, clearCount, heavierThan, Heaviest}
 
 -- ---- a test and two of its parts
 pub χ-both : {h p : Bool} (x : ℕ) → h ≡ true → p ≡ true → χ (h && p) x ≡ x

@@ -1,26 +1,23 @@
 -- A turn of the pass down over the work arrays: what its calls require, and that what they establish is a turn.
 -- Assumes nothing.
-use Prim.Native.Nat.{ℕ, suc, _+_, _*_, _^_, _≤_, _<_}
-use mathlib.Core.Path.{_≡_, refl, sym, _∙_, ap}
-use mathlib.Core.Logic.{_≢_}
-use mathlib.Core.Bool.{Bool, true, false, not, _&&_}
+use Prim.Native.Nat.{ℕ, _+_, _≤_, _<_}
+use mathlib.Core.Path.{_≡_, refl, _∙_}
+use mathlib.Core.Bool.{Bool, true, false}
 use mathlib.Core.List.{List}
 use native.Mathlib.Omega.{arith}
 use lib.ListN.{length, getD, set}
 use lib.Seq.{getD-set-same, getD-set-other}
 use lib.Dec.{eqb, ltb}
-use borrow.Author.Tests.{eqb-true, eqb-false, ne-eqb, ltb-true, ltb-false, lt-ltb}
-use Rattle.laws.specs.Sum.{χ, sum}
-use Rattle.laws.specs.Sums.{by, no-both, and-left, and-right}
-use Rattle.cuts.specs.Cluster.{Clusters, Sound, hangs}
-use Rattle.cuts.specs.Passes.{Down, Closed, Climbed, Counted}
-use Rattle.cuts.specs.Bounds.{allWeight, ownSpan, sums-bounded}
+use borrow.Author.Tests.{eqb-true, ne-eqb, ltb-true, ltb-false, lt-ltb}
+use Rattle.laws.specs.Sums.{and-left, and-right}
+use Rattle.cuts.specs.Passes.{Down, Counted}
+use Rattle.cuts.specs.Bounds.{sums-bounded}
 use Rattle.jumpers.specs.Arrays.{downOf}
 use Rattle.jumpers.specs.Close.{hung, branchSum, flaggedSum, Room, Closes, branchesOf, closingOf}
-use Rattle.jumpers.specs.Climb.{openAt, Branch, wireOf, climbingOf, Closable}
+use Rattle.jumpers.specs.Climb.{Branch, wireOf, climbingOf}
 use Rattle.jumpers.specs.Count.{workClusters, Ready, Unmarked, ClimbsAt}
 use Rattle.jumpers.specs.CountFrame.{SameCluster, SameBranch, closed-same, climbed-same}
-use Rattle.jumpers.specs.CountStep.{SameAt, Turn, counted-step}
+use Rattle.jumpers.specs.CountStep.{Turn, counted-step}
 
 module _ (n : ℕ) (ns ws os lo hi host fixed gates : List ℕ) (ready : Ready n ns ws os lo hi host fixed gates) where
   -- a cuttable wire has its lowest and highest open position

@@ -1,18 +1,18 @@
 -- One turn of the pass down: from the clusters above r to those from r on.
 -- Assumes nothing.
-use Prim.Native.Nat.{ℕ, suc, _+_, _*_, _^_, _≤_, _<_}
-use mathlib.Core.Path.{_≡_, refl, sym, _∙_, ap}
-use mathlib.Core.Logic.{_⊎_, inl, inr, ⊎-elim, _≢_}
-use mathlib.Core.Bool.{Bool, true, false, not, _&&_, false≢true, true≢false}
+use Prim.Native.Nat.{ℕ, _+_, _^_, _≤_, _<_}
+use mathlib.Core.Path.{_≡_, refl, _∙_}
+use mathlib.Core.Logic.{_≢_}
+use mathlib.Core.Bool.{Bool, true, false, not, _&&_}
 use mathlib.Core.List.{List}
 use native.Mathlib.Omega.{arith}
-use lib.ListN.{length, getD}
-use lib.Dec.{eqb, ltb}
-use borrow.Author.Tests.{eqb-true, eqb-false, eq-eqb, ne-eqb, ltb-true, lt-ltb}
-use Rattle.laws.specs.Sum.{χ, sum}
-use Rattle.laws.specs.Sums.{by, no-both, and-left, and-right, and-intro, χ-≤, χ-and, χ-mono, sum-≤, sum-bound}
+use lib.ListN.{getD}
+use lib.Dec.{eqb}
+use borrow.Author.Tests.{eqb-true, eqb-false, ne-eqb}
+use Rattle.laws.specs.Sum.{χ}
+use Rattle.laws.specs.Sums.{by, no-both, and-left, and-right, χ-≤, χ-and, χ-mono, sum-≤, sum-bound}
 use Rattle.cuts.specs.Cluster.{Clusters, Sound, hangs}
-use Rattle.cuts.specs.Passes.{Down, Closed, only-any, both, only-ungated, Climbed, Counted, anyCuts, ungatedCuts, anyLeft, belowCount}
+use Rattle.cuts.specs.Passes.{Down, Closed, only-any, both, only-ungated, Climbed, Counted, anyCuts, ungatedCuts, anyLeft}
 use Rattle.jumpers.specs.Close.{hung, branchSum, flaggedSum, Room, branchesOf, closingOf}
 use Rattle.jumpers.specs.Climb.{Closable}
 use Rattle.jumpers.specs.CountFrame.{SameCluster, SameBranch, closed-same, climbed-same}

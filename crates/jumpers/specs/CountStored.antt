@@ -1,9 +1,8 @@
 -- What a climb leaves in its arrays, and the sum of the points found.
 -- Assumes nothing.
 use Prim.Native.Nat.{ℕ, _+_, _*_, _≤_, _<_}
-use mathlib.Core.Path.{_≡_, refl, sym, _∙_}
-use mathlib.Core.Logic.{_≢_}
-use mathlib.Core.Bool.{Bool, true, false, not}
+use mathlib.Core.Path.{_≡_, refl}
+use mathlib.Core.Bool.{Bool, false, not}
 use mathlib.Core.List.{List}
 use native.Mathlib.Omega.{arith}
 use lib.ListN.{length, getD, set}
@@ -11,7 +10,7 @@ use lib.Seq.{getD-set-same, getD-set-other}
 use lib.Dec.{ltb}
 use borrow.Author.Tests.{lt-ltb, le-ltb}
 use Rattle.laws.specs.Sum.{χ, sum}
-use Rattle.laws.specs.Sums.{χ-yes, χ-no, sum-next, sum-next-≤}
+use Rattle.laws.specs.Sums.{sum-next, sum-next-≤}
 use Rattle.cuts.specs.Passes.{Climbed, Counted, total}
 use Rattle.cuts.specs.Bounds.{total-≤}
 use Rattle.jumpers.specs.Arrays.{downOf}

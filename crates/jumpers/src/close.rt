@@ -1,6 +1,6 @@
 // Closing a cluster in the pass down: the fewest points below it, and the weight that they leave.
 ghost use mathlib.Core.Path.{_≡_};
-ghost use mathlib.Core.Bool.{Bool, true, false};
+ghost use mathlib.Core.Bool.{true, false};
 ghost use Prim.Native.Nat.{ℕ, _+_, _<_, _≤_, _^_};
 ghost use lib.ListN.{length, getD};
 ghost use Rattle.jumpers.specs.Close.{hung, branchSum, flaggedSum, clearCount, heavierThan, Heaviest, Cutting, Lengths, Room, Closes};

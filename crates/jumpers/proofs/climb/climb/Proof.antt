@@ -1,6 +1,5 @@
 -- `jumpers::climb::climb` meets its contract: each return is an ending of `Climbed`.
 -- Assumes nothing.
-use Prim.Native.Nat.{ℕ}
 use mathlib.Core.Path.{refl}
 use native.Mathlib.Omega.{arith}
 use Rattle.points.specs.Geometry.{length-small}

@@ -1,6 +1,5 @@
 -- `jumpers::climb::last_within` meets its contract: the search begins at the last position that the limit allows, which lies inside the wire.
 -- Assumes nothing.
-use Prim.Native.Nat.{ℕ, _/_}
 use native.Mathlib.Omega.{arith}
 use Rattle.points.specs.Geometry.{length-small}
 use Rattle.jumpers.specs.ClimbLaws.{open-high, steps-inside, last-within}

@@ -1,7 +1,6 @@
 -- `jumpers::climb::stretch_weight` meets its contract: 255 times 65,535 fits.
 -- Assumes nothing.
-use Prim.Native.Nat.{_-_, _*_}
-use mathlib.Core.Path.{ap}
+use Prim.Native.Nat.{_-_}
 use native.Mathlib.Omega.{arith}
 use native.Mathlib.Nat.{mul-le-mul}
 use Rattle.jumpers.proofs.climb.stretch_weight.Statement.{statement}

@@ -1,6 +1,6 @@
 -- `jumpers::close::close` meets its contract: each ending is one of `Closed`, or a gate with more fixed weight than the limit.
 -- Assumes nothing.
-use mathlib.Core.Path.{_≡_, refl, sym, _∙_}
+use mathlib.Core.Path.{refl}
 use mathlib.Core.Logic.{inl, inr}
 use mathlib.Core.Bool.{false≢true, true≢false}
 use native.Mathlib.Omega.{arith}

@@ -1,7 +1,6 @@
 -- `jumpers::close::cut_heaviest` meets its contract: the branches cut so far are the heaviest, and the weight left falls with each.
 -- Assumes nothing.
 use Prim.Native.Nat.{_≤_, _+_}
-use mathlib.Core.Path.{_≡_, sym, _∙_}
 use native.Mathlib.Omega.{arith}
 use Rattle.jumpers.specs.Close.{branchSum, Cutting}
 use Rattle.jumpers.specs.CloseCutting.{cutting-start, cutting-more, cutting-step, cutting-part}

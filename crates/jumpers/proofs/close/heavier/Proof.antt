@@ -1,7 +1,6 @@
 -- `jumpers::close::heavier` meets its contract: its three tests are those of the definition.
 -- Assumes nothing.
 use mathlib.Core.Path.{sym, _∙_}
-use native.Mathlib.Omega.{arith}
 use borrow.Author.Needs.{needs}
 use Rattle.jumpers.proofs.close.heavier.Statement.{statement}
 use Rattle.jumpers.proofs.close.heavier.Tie as tie

@@ -1,10 +1,9 @@
 -- `jumpers::close::ungated_option` meets its contract: number and weight so far are those of the branches passed.
 -- Assumes nothing.
-use Prim.Native.Nat.{ℕ, _≤_, _-_, _+_}
-use mathlib.Core.Path.{_≡_, sym, _∙_, ap}
+use Prim.Native.Nat.{_≤_, _-_}
+use mathlib.Core.Path.{_≡_, sym, _∙_}
 use mathlib.Core.Logic.{⊎-elim}
 use native.Mathlib.Omega.{arith}
-use lib.ListN.{getD}
 use Rattle.jumpers.specs.Close.{clearCount, flaggedSum}
 use Rattle.jumpers.specs.CloseSums.{option-none, option-clear, option-flagged, option-no, option-room}
 use Rattle.jumpers.proofs.close.ungated_option.Statement.{statement}

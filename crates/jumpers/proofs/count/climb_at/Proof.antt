@@ -1,6 +1,5 @@
 -- `jumpers::count::climb_at` meets its contract: the stores are those of a climb, or of a wire that cannot be cut.
 -- Assumes nothing.
-use native.Mathlib.Omega.{arith}
 use borrow.Author.Needs.{needs}
 use Rattle.jumpers.specs.CountStored.{climbs-stored, climbs-none}
 use Rattle.jumpers.proofs.count.climb_at.Statement.{statement}

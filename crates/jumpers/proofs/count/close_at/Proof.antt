@@ -35,14 +35,14 @@ mul-anyweight c = omega (arith, c .before .before .before .before .before .befor
 slice-write-anyweight : tie.Need-slice-write-anyweight
 slice-write-anyweight c = omega (arith, c .before .before .before .before .before .before .before .before .before .before .before .before .before .before .before .before .before .before .before .before .pre .1 .0, c .before .before .before .before .before .before .before .before .before .before .before .before .before .before .before .before .before .before .before .before .pre .1 .1 .0 .few)
 
-slice-write-quiet : tie.Need-slice-write-quiet
-slice-write-quiet c = omega (arith, c .before .before .before .before .before .before .before .before .before .before .before .before .before .before .before .before .before .before .before .before .pre .1 .0, c .before .before .before .before .before .before .before .before .before .before .before .before .before .before .before .before .before .before .before .before .pre .1 .1 .0 .few)
+slice-write-ungated-ok : tie.Need-slice-write-ungated-ok
+slice-write-ungated-ok c = omega (arith, c .before .before .before .before .before .before .before .before .before .before .before .before .before .before .before .before .before .before .before .before .pre .1 .0, c .before .before .before .before .before .before .before .before .before .before .before .before .before .before .before .before .before .before .before .before .pre .1 .1 .0 .few)
 
-mul-quietweight : tie.Need-mul-quietweight
-mul-quietweight c = omega (arith, c .before .before .before .before .before .before .before .before .before .before .before .before .before .before .before .before .before .before .before .before .pre .1 .0, c .before .before .before .before .before .before .before .before .before .before .before .before .before .before .before .before .before .before .before .before .pre .1 .1 .0 .few)
+mul-ungated-weight : tie.Need-mul-ungated-weight
+mul-ungated-weight c = omega (arith, c .before .before .before .before .before .before .before .before .before .before .before .before .before .before .before .before .before .before .before .before .pre .1 .0, c .before .before .before .before .before .before .before .before .before .before .before .before .before .before .before .before .before .before .before .before .pre .1 .1 .0 .few)
 
-slice-write-quietweight : tie.Need-slice-write-quietweight
-slice-write-quietweight c = omega (arith, c .before .before .before .before .before .before .before .before .before .before .before .before .before .before .before .before .before .before .before .before .pre .1 .0, c .before .before .before .before .before .before .before .before .before .before .before .before .before .before .before .before .before .before .before .before .pre .1 .1 .0 .few)
+slice-write-ungated-weight : tie.Need-slice-write-ungated-weight
+slice-write-ungated-weight c = omega (arith, c .before .before .before .before .before .before .before .before .before .before .before .before .before .before .before .before .before .before .before .before .pre .1 .0, c .before .before .before .before .before .before .before .before .before .before .before .before .before .before .before .before .before .before .before .before .pre .1 .1 .0 .few)
 
 same-length : tie.Need-same-length
 same-length c = search needs
@@ -79,9 +79,9 @@ close-at-spec =
     slice-write-any
     mul-anyweight
     slice-write-anyweight
-    slice-write-quiet
-    mul-quietweight
-    slice-write-quietweight
+    slice-write-ungated-ok
+    mul-ungated-weight
+    slice-write-ungated-weight
     same-length
     same-length-2
     same-length-3

@@ -1,7 +1,7 @@
 -- `jumpers::count::count_pass` meets its contract: before each turn the clusters from r on are closed and climbed, and no branch of a lower one is marked.
 -- Assumes nothing.
-use Prim.Native.Nat.{ℕ, _≤_, _<_, _-_, _+_}
-use mathlib.Core.Path.{_≡_, refl, sym, _∙_}
+use Prim.Native.Nat.{_≤_, _<_, _-_, _+_}
+use mathlib.Core.Path.{_≡_, refl, _∙_}
 use mathlib.Core.Bool.{false≢true, true≢false}
 use native.Mathlib.Omega.{arith}
 use lib.ListN.{getD}
@@ -15,14 +15,14 @@ use Rattle.jumpers.proofs.count.count_pass.Statement.{statement}
 use Rattle.jumpers.proofs.count.count_pass.Tie as tie
 
 abbrev Inv-loop : tie.InvT-loop
-Inv-loop nodes wires obstacles lo hi host fixed gates cut₀ fewest₀ any₀ anyweight₀ quiet₀ quietweight₀ count₀ lightest₀ ungatable₀ ungated₀ near₀ n limit r₀ cut fewest any anyweight quiet quietweight count lightest ungatable ungated near r =
+Inv-loop nodes wires obstacles lo hi host fixed gates cut₀ fewest₀ any₀ anyweight₀ ungated-ok₀ ungated-weight₀ count₀ lightest₀ ungatable₀ ungated₀ near₀ n limit r₀ cut fewest any anyweight ungated-ok ungated-weight count lightest ungatable ungated near r =
     (r ≤ n)
-    × Counted (workClusters n nodes wires obstacles lo hi host fixed gates) limit (downOf cut fewest any anyweight quiet quietweight count lightest ungatable ungated near) r
+    × Counted (workClusters n nodes wires obstacles lo hi host fixed gates) limit (downOf cut fewest any anyweight ungated-ok ungated-weight count lightest ungatable ungated near) r
     × Unmarked n lo host cut r
-    × Kept cut₀ fewest₀ any₀ anyweight₀ quiet₀ quietweight₀ count₀ lightest₀ ungatable₀ ungated₀ near₀ cut fewest any anyweight quiet quietweight count lightest ungatable ungated near
+    × Kept cut₀ fewest₀ any₀ anyweight₀ ungated-ok₀ ungated-weight₀ count₀ lightest₀ ungatable₀ ungated₀ near₀ cut fewest any anyweight ungated-ok ungated-weight count lightest ungatable ungated near
 
 abbrev μ-loop : tie.MeasureT-loop
-μ-loop nodes wires obstacles lo hi host fixed gates cut₀ fewest₀ any₀ anyweight₀ quiet₀ quietweight₀ count₀ lightest₀ ungatable₀ ungated₀ near₀ n limit r₀ cut fewest any anyweight quiet quietweight count lightest ungatable ungated near r = r
+μ-loop nodes wires obstacles lo hi host fixed gates cut₀ fewest₀ any₀ anyweight₀ ungated-ok₀ ungated-weight₀ count₀ lightest₀ ungatable₀ ungated₀ near₀ n limit r₀ cut fewest any anyweight ungated-ok ungated-weight count lightest ungatable ungated near r = r
 
 loop-holds : tie.Need-loop-holds Inv-loop μ-loop
 loop-holds c =
@@ -60,7 +60,7 @@ close-at-requires c κs =
       (
         (inside, ready .fixeds, ready .gate-counts, omega (arith, reach .fewests, i .3 .fewests), omega (arith, reach .anys, i .3 .anys), omega (arith, reach .any-weights, i .3 .any-weights), omega (arith, reach .ungated-oks, i .3 .ungated-oks), omega (arith, reach .ungated-weights, i .3 .ungated-weights)),
         (
-          room-of (a .n) (a .nodes .now) (a .wires .now) (a .obstacles .now) (a .lo .now) (a .hi .now) (a .host .now) (a .fixed .now) (a .gates .now) ready (a .limit) (l .cut) (l .fewest) (l .any) (l .anyweight) (l .quiet) (l .quietweight) (l .count) (l .lightest) (l .ungatable) (l .ungated) (l .near) q inside (rw e (i .1)),
+          room-of (a .n) (a .nodes .now) (a .wires .now) (a .obstacles .now) (a .lo .now) (a .hi .now) (a .host .now) (a .fixed .now) (a .gates .now) ready (a .limit) (l .cut) (l .fewest) (l .any) (l .anyweight) (l .ungated-ok) (l .ungated-weight) (l .count) (l .lightest) (l .ungatable) (l .ungated) (l .near) q inside (rw e (i .1)),
           unmarked-branches (a .n) (a .nodes .now) (a .wires .now) (a .obstacles .now) (a .lo .now) (a .hi .now) (a .host .now) (a .fixed .now) (a .gates .now) ready (l .cut) q (rw e (i .2)),
         ),
       ),
@@ -130,7 +130,7 @@ climb-at-requires c κs =
       (
         (λ h. branch-of (a .n) (a .nodes .now) (a .wires .now) (a .obstacles .now) (a .lo .now) (a .hi .now) (a .host .now) (a .fixed .now) (a .gates .now) ready q inside h),
         closable (a .n) (a .lo .now) (a .host .now) (l .count) (l .lightest) (l .ungatable) (l .ungated) (c .before .before .before .before .before .before .before .before .before .before .before .before .before .before .before .before .before .before .close-at .last .1 .1 .1 .1 .1 .1 .1 .1 .0) q (getD (a .fixed .now) q 0) (getD (a .gates .now) q 0) (a .limit) (x .fewest) (x .any) (x .anyweight) (x .ungated) (x .ungatedweight)
-            (room-of (a .n) (a .nodes .now) (a .wires .now) (a .obstacles .now) (a .lo .now) (a .hi .now) (a .host .now) (a .fixed .now) (a .gates .now) ready (a .limit) (l .cut) (l .fewest) (l .any) (l .anyweight) (l .quiet) (l .quietweight) (l .count) (l .lightest) (l .ungatable) (l .ungated) (l .near) q inside (rw e (i .1)))
+            (room-of (a .n) (a .nodes .now) (a .wires .now) (a .obstacles .now) (a .lo .now) (a .hi .now) (a .host .now) (a .fixed .now) (a .gates .now) ready (a .limit) (l .cut) (l .fewest) (l .any) (l .anyweight) (l .ungated-ok) (l .ungated-weight) (l .count) (l .lightest) (l .ungatable) (l .ungated) (l .near) q inside (rw e (i .1)))
             (c .before .before .before .before .before .before .before .before .before .before .before .before .before .before .before .before .before .before .close-at .ensures .0 .closed (c .before .before .before .before .before .if1 .left)),
       ),
     )
@@ -153,7 +153,7 @@ loop-again c =
     let z = c .before .before .before .before .before .before .before .before .before .before .before .before .before .before .before .before .before .before .before .before .before .before .before .before .before .before .before .before .before .close-at .ensures .1 in (
       omega arith,
       rw (z .0, z .1, z .2, z .3, z .4)
-          (counted-turn (a .n) (a .nodes .now) (a .wires .now) (a .obstacles .now) (a .lo .now) (a .hi .now) (a .host .now) (a .fixed .now) (a .gates .now) ready (a .limit) q inside (l .cut) (c .before .before .before .before .before .before .before .before .before .before .before .before .before .before .before .before .before .before .before .before .before .before .before .before .before .before .before .before .before .close-at .last .1 .1 .1 .1 .1 .1 .1 .1 .0) (l .fewest) (l .any) (l .anyweight) (l .quiet) (l .quietweight)
+          (counted-turn (a .n) (a .nodes .now) (a .wires .now) (a .obstacles .now) (a .lo .now) (a .hi .now) (a .host .now) (a .fixed .now) (a .gates .now) ready (a .limit) q inside (l .cut) (c .before .before .before .before .before .before .before .before .before .before .before .before .before .before .before .before .before .before .before .before .before .before .before .before .before .before .before .before .before .close-at .last .1 .1 .1 .1 .1 .1 .1 .1 .0) (l .fewest) (l .any) (l .anyweight) (l .ungated-ok) (l .ungated-weight)
           (l .count) (l .lightest) (l .ungatable) (l .ungated) (l .near)
           (c .before .before .before .before .before .before .before .before .before .before .climb-at .last .1 .1 .1 .1 .1 .0) (c .before .before .before .before .before .before .before .before .before .before .climb-at .last .1 .1 .1 .1 .1 .1 .0) (c .before .before .before .before .before .before .before .before .before .before .climb-at .last .1 .1 .1 .1 .1 .1 .1 .0) (c .before .before .before .before .before .before .before .before .before .before .climb-at .last .1 .1 .1 .1 .1 .1 .1 .1 .0) (c .before .before .before .before .before .before .before .before .before .before .climb-at .last .1 .1 .1 .1 .1 .1 .1 .1 .1 .0)
           (x .fewest) (x .any) (x .anyweight) (x .ungated) (x .ungatedweight) (x .hopeless)
@@ -187,7 +187,7 @@ total-points-requires c κs =
     let ready = s .pre .0 in
     let reach = s .pre .1 .0 in
     let z : l .r ≡ 0 = omega (arith, c .before .loop-test .left) in
-    (ready .los, omega (arith, reach .fewests, i .3 .fewests), omega (arith, roots-few (a .n) (a .nodes .now) (a .wires .now) (a .obstacles .now) (a .lo .now) (a .hi .now) (a .host .now) (a .fixed .now) (a .gates .now) ready (a .limit) (l .cut) (l .fewest) (l .any) (l .anyweight) (l .quiet) (l .quietweight) (l .count) (l .lightest) (l .ungatable) (l .ungated) (l .near) (rw z at (i .1)), ready .few))
+    (ready .los, omega (arith, reach .fewests, i .3 .fewests), omega (arith, roots-few (a .n) (a .nodes .now) (a .wires .now) (a .obstacles .now) (a .lo .now) (a .hi .now) (a .host .now) (a .fixed .now) (a .gates .now) ready (a .limit) (l .cut) (l .fewest) (l .any) (l .anyweight) (l .ungated-ok) (l .ungated-weight) (l .count) (l .lightest) (l .ungatable) (l .ungated) (l .near) (rw z at (i .1)), ready .few))
 
 same-length-12 : tie.Need-same-length-12 Inv-loop μ-loop
 same-length-12 c = c .before .before .before .loop .inv .3 .cuts
