@@ -215,3 +215,33 @@ added-small x h steps factor layer small d p q j =
 
 pub at-more : (x y : ℕ) (w : List ℕ) → x ≤ y → AtMost x w → AtMost y w
 at-more x y w p small h = let a = small h in omega arith
+
+-- ---- what writing the stretches of wire i may rely on; its entries are those from a to b − 1
+pub record WireEntries (ws : List ℕ) (k : ℕ) (list : List ℕ) (i a b : ℕ) : Type 0 where
+  pub stored : wireBytes * i ≤ length ws
+  pub small : i < mostNodes
+  pub ordered : a ≤ b
+  pub inside : b ≤ entryCount list
+  pub absent : (ltb 0 i && leb (wireLayer ws i) k) ≡ false → b ≤ a
+  pub low : 0 < i → 1 ≤ wireLayer ws i
+  pub high : 0 < i → wireLayer ws i ≤ mostLayers
+  pub rise : (d : ℕ) → a ≤ d → d + 1 < b → entryPosition list d ≤ entryPosition list (d + 1)
+
+pub wire-entries : (ns ws list : List ℕ) (k : ℕ) → Accepted ns ws k list → (i : ℕ) → i < nodeCount ns → (a b : ℕ) →
+    OfWire list (entryCount list) i a b → WireEntries ws k list i a b
+wire-entries ns ws list k accepted i h a b w =
+    let os = accepted .0 in
+    let j = accepted .1 in
+    record {
+      stored = stored-of ns ws list k accepted i h;
+      small = node-small ns ws list k accepted i h;
+      ordered = w .ordered;
+      inside = w .inside;
+      absent = absent-none ns ws list k accepted i h a b w;
+      low = λ p. j .right .wire i p h .layer-low;
+      high = λ p. j .right .wire i p h .layer-high;
+      rise = λ d p q.
+          let r =
+          positions-rise (stageOf ns ws os k) list (entryCount list) (free-of ns ws list os k j) (rising-of ns ws list os k j) i a b w d (d + 1) p (omega arith) q in
+          omega arith;
+    }

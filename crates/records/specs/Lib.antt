@@ -5,6 +5,8 @@ pub mod Gathering
 pub mod Judged
 pub mod Judging
 pub mod Reached
+pub mod Listing
+pub mod Counting
 pub mod StretchRecords
 pub mod Record
 pub mod Entries

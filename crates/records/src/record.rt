@@ -7,7 +7,7 @@ ghost use Rattle.net.specs.Layout.{recordBytes};
 ghost use Rattle.records.specs.Record.{lowestOf, fields};
 
 // Fills the first twelve bytes of the buffer's remainder.
-pub fn write_record(rest: &mut [u8], number: u8, position: u16, weight: u64, flags: u8, layers: u16)
+pub fn write_record(rest: &mut [u8], number: u8, position: u32, weight: u64, flags: u8, layers: u16)
     requires { ⌜ recordBytes ≤ length (now rest) ⌝ }
     ensures { λ r. ⌜ now (rest .exit) ≡ fields number position weight flags layers ++ drop recordBytes (now (rest .entry)) ⌝ }
 {
