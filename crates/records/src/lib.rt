@@ -4,4 +4,5 @@ mod count;
 mod gather;
 mod listing;
 pub mod record;
+pub mod report;
 mod wire;
