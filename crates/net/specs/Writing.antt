@@ -7,12 +7,18 @@ use mathlib.Core.List.{List, _++_}
 use native.Mathlib.Omega.{arith}
 use lib.ListN.{length, drop, length-append}
 use borrow.Author.Tests.{lt-ltb, le-ltb}
+use Rattle.laws.specs.Bytes.{bytes32}
 use Rattle.laws.specs.Lists.{over}
 use Rattle.net.specs.declared.Refusal.{Refusal}
 use Rattle.net.specs.Layout.{headBytes}
 use Rattle.net.specs.File.{headOf, fileOf, fileBytes}
 use Rattle.net.specs.Refusal.{none, refusal, met, netRefusal, answer, writeRefusal, writeAnswer, writeBuffer}
 use Rattle.net.specs.First.{first-of, rest-of}
+
+-- the three pairs of a head, behind version and pair count
+abbrev pub pairsOf : ℕ → ℕ → ℕ → List ℕ
+pairsOf n w o =
+    bytes32 headBytes ++ bytes32 n ++ (bytes32 (headBytes + n) ++ bytes32 w) ++ (bytes32 (headBytes + n + w) ++ bytes32 o)
 
 pub head-length : (n w o : ℕ) → length (headOf n w o) ≡ headBytes
 unfolding headOf

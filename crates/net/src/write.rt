@@ -10,7 +10,6 @@ use crate::layout::PAIR_COUNT;
 use crate::layout::PAIR_COUNT_AT;
 use crate::layout::PAIRS_AT;
 use crate::layout::VERSION;
-use crate::layout::VERSION_AT;
 use crate::read::net_refusal;
 ghost use mathlib.Core.Path.{_≡_};
 ghost use mathlib.Core.List.{_++_};
@@ -20,6 +19,7 @@ ghost use Rattle.laws.specs.Bytes.{bytes16, bytes32};
 ghost use Rattle.laws.specs.Lists.{over};
 ghost use Rattle.net.specs.Layout.{headBytes};
 ghost use Rattle.net.specs.File.{headOf, fileOf, fileBytes};
+ghost use Rattle.net.specs.Writing.{pairsOf};
 ghost use Rattle.net.specs.Refusal.{writeAnswer, writeBuffer};
 
 // The file at the start of out, or the first of 4 to 11 and 16, with out as it was.
@@ -44,11 +44,9 @@ fn write_file(nodes: &[u8], wires: &[u8], obstacles: &[u8], out: &mut [u8])
     ensures { λ r. ⌜ now (out .exit) ≡ over (fileOf (now (nodes .entry)) (now (wires .entry)) (now (obstacles .entry))) (now (out .entry)) ⌝ }
 {
     let wires_at = HEAD_BYTES + nodes.len();
-    let obstacles_at = wires_at + wires.len();
     write_head(nodes.len(), wires.len(), obstacles.len(), out);
     copy(nodes, &mut out[HEAD_BYTES..]);
-    copy(wires, &mut out[wires_at..]);
-    copy(obstacles, &mut out[obstacles_at..]);
+    copy_two(wires, obstacles, &mut out[wires_at..]);
 }
 
 // Version, pair count and the three pairs.
@@ -56,13 +54,21 @@ fn write_head(nodes: usize, wires: usize, obstacles: usize, out: &mut [u8])
     requires { ⌜ (headBytes ≤ length (now out)) × (headBytes + nodes + wires < 18446744073709551616) ⌝ }
     ensures { λ r. ⌜ now (out .exit) ≡ over (headOf nodes wires obstacles) (now (out .entry)) ⌝ }
 {
-    let second = PAIRS_AT + PAIR_BYTES;
-    let third = second + PAIR_BYTES;
-    put16(VERSION, &mut out[VERSION_AT..]);
+    put16(VERSION, out);
     put16(PAIR_COUNT, &mut out[PAIR_COUNT_AT..]);
-    put_pair(HEAD_BYTES, nodes, &mut out[PAIRS_AT..]);
-    put_pair(HEAD_BYTES + nodes, wires, &mut out[second..]);
-    put_pair(HEAD_BYTES + nodes + wires, obstacles, &mut out[third..]);
+    put_pairs(nodes, wires, obstacles, &mut out[PAIRS_AT..]);
+}
+
+// The pairs of nodes, wires and obstacles: each section begins where the one before it ends.
+fn put_pairs(nodes: usize, wires: usize, obstacles: usize, out: &mut [u8])
+    requires { ⌜ (24 ≤ length (now out)) × (headBytes + nodes + wires < 18446744073709551616) ⌝ }
+    ensures { λ r. ⌜ now (out .exit) ≡ over (pairsOf nodes wires obstacles) (now (out .entry)) ⌝ }
+{
+    let wires_at = HEAD_BYTES + nodes;
+    let third = PAIR_BYTES + PAIR_BYTES;
+    put_pair(HEAD_BYTES, nodes, out);
+    put_pair(wires_at, wires, &mut out[PAIR_BYTES..]);
+    put_pair(wires_at + wires, obstacles, &mut out[third..]);
 }
 
 // A number of 16 bits.
@@ -104,4 +110,14 @@ fn copy(source: &[u8], out: &mut [u8])
         out[i] = source[i];
         i += 1;
     }
+}
+
+// All of first, then all of second.
+fn copy_two(first: &[u8], second: &[u8], out: &mut [u8])
+    requires { ⌜ length (now first) + length (now second) ≤ length (now out) ⌝ }
+    ensures { λ r. ⌜ now (out .exit) ≡ over (now (first .entry) ++ now (second .entry)) (now (out .entry)) ⌝ }
+{
+    let at = first.len();
+    copy(first, out);
+    copy(second, &mut out[at..]);
 }
