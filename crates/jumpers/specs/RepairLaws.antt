@@ -1,10 +1,10 @@
 -- From the passes of repair to its promise: what each pass requires follows from those before it, and all together give a smallest legal set or show that there is none.
 -- Assumes nothing.
-use Prim.Native.Nat.{ℕ, _+_, _*_, _^_, _≤_, _<_}
+use Prim.Native.Nat.{ℕ, zero, suc, _+_, _*_, _^_, _≤_, _<_}
 use mathlib.Core.Path.{_≡_, refl, sym, _∙_, ap}
 use mathlib.Core.Bool.{Bool, true, false, not, _&&_}
 use mathlib.Core.List.{List}
-use lib.ListN.{length, getD}
+use lib.ListN.{length, getD, replicate}
 use lib.Dec.{leb, ltb}
 use native.Mathlib.Omega.{arith}
 use borrow.Author.Tests.{ltb-true, lt-ltb}
@@ -36,6 +36,11 @@ pub record Planned (s : Stage) (limit : ℕ) (hi near : List ℕ) (high : List B
   pub smallest : Smallest s limit (listOf (s .nodes) hi near high) (countOf (s .nodes) near high)
   pub listing : Listable (s .nodes) hi near high
   pub points-is : points ≡ countOf (s .nodes) near high
+
+-- what the passes leave: that no set is legal, or a plan
+pub record Plans (ns ws os : List ℕ) (k limit : ℕ) (hi near : List ℕ) (high : List Bool) (hopeless : Bool) (points : ℕ) : Type 0 where
+  pub no-set : hopeless ≡ true → NoneLegal (stageOf ns ws os k) limit
+  pub plan : hopeless ≡ false → Planned (stageOf ns ws os k) limit hi near high points
 
 module _ (ns ws os : List ℕ) (k : ℕ) (right : NetRight ns ws os) (lo hi host fixed gates : List ℕ) (root component : ℕ → ℕ)
     (fits : Fits (stageOf ns ws os k) (clustersOf (stageOf ns ws os k) lo hi host fixed gates) root component) where
@@ -129,3 +134,9 @@ module _ (ns ws os : List ℕ) (k : ℕ) (right : NetRight ns ws os) (lo hi host
             listing = listable (stageOf ns ws os k) root component limit lo hi host fixed gates cut fewest any anyWeight quiet quietWeight count lightest ungatable ungated near mode high is-formed fits run short;
             points-is = e ∙ sym (count-is-total (stageOf ns ws os k) root component limit lo hi host fixed gates cut fewest any anyWeight quiet quietWeight count lightest ungatable ungated near mode high is-formed fits run short);
           }
+
+-- an array of false is false everywhere
+pub all-false : (n j : ℕ) → getD (replicate n false) j false ≡ false
+all-false zero j = refl
+all-false (suc n) zero = refl
+all-false (suc n) (suc j) = all-false n j

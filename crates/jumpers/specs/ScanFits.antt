@@ -8,7 +8,7 @@ use native.Mathlib.Omega.{arith}
 use native.Mathlib.Nat.{mul-le-mul}
 use lib.ListN.{getD}
 use lib.Dec.{ltb, eqb}
-use borrow.Author.Tests.{ltb-true, lt-ltb}
+use borrow.Author.Tests.{ltb-true, ltb-false, lt-ltb}
 use Rattle.laws.specs.Sum.{χ, sum}
 use Rattle.laws.specs.Sums.{by, and-left, and-intro, and-no-right, χ-and, sum-ap, sum-+, sum-bound}
 use Rattle.net.specs.Layout.{nodeBytes, wireBytes}
@@ -19,9 +19,10 @@ use Rattle.cuts.specs.Fits.{Fits, freeAt, fixedPart, liveGate, sourced}
 use Rattle.cuts.specs.Bounds.{allWeight, allWeight-≤}
 use Rattle.cuts.specs.BridgeFits.{free-of}
 use Rattle.jumpers.specs.Arrays.{clustersOf}
-use Rattle.jumpers.specs.Scan.{Wired, Scanned, made, cuttable, whole, Falling, hostOf, sourceIn, gateOf, lowerWeight, upperWeight, gathered}
+use Rattle.jumpers.specs.Scan.{Wired, Ends, Scanned, made, cuttable, whole, Falling, hostOf, sourceIn, gateOf, lowerWeight, upperWeight, gathered}
 use Rattle.jumpers.specs.ScanLaws.{made-positive, made-lower, whole-lower, leads-falling}
-use Rattle.jumpers.specs.ScanEnds.{present-is, inside-of}
+use Rattle.jumpers.specs.ScanEnds.{checked, present-is, inside-of}
+use Rattle.points.specs.Geometry.{length-small}
 use Rattle.jumpers.specs.ScanWeights.{Bytes, factor-≤}
 
 -- a net that meets none of 4 to 11
@@ -163,3 +164,14 @@ module _ (ns ws os : List ℕ) (k : ℕ) (w : Wired ns ws) (nodes : Bytes ns) (w
       let b = sum-bound (nodeCount ns) 33422850 {f = λ i. wireLength ns ws i * wireFactor ws i} (λ i p. weight-small ns ws nodes wires i) in
       let n = w .few in
       omega arith
+
+-- the positions found are below 65,536
+pub scan-short : (ns ws os : List ℕ) (k : ℕ) → Wired ns ws → Bytes ns → (lo hi : List ℕ) → Ends (stageOf ns ws os k) lo hi → (r : ℕ) → r < nodeCount ns → getD hi r 0 < 65536
+unfolding stageOf
+scan-short ns ws os k w nodes lo hi e r p =
+    by (ltb 0 (getD hi r 0))
+    (λ y.
+    let f = free-of (stageOf ns ws os k) r (getD hi r 0) (e .high r p .free (ltb-true 0 (getD hi r 0) y)) in
+    let small = length-small ns ws r nodes (checked w r (present-positive ns ws os k r (f .present)) p) in
+    omega (arith, f .high, small))
+    (λ n. let z = ltb-false 0 (getD hi r 0) n in omega arith)

@@ -4,4 +4,5 @@ mod climb;
 mod close;
 mod count;
 mod list;
+mod repair;
 mod scan;

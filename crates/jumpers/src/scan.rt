@@ -292,6 +292,7 @@ pub fn scan(
         (clustersOf (stageOf (now (nodes .entry)) (now (wires .entry)) (now (obstacles .entry)) stage) (now (lo .exit)) (now (hi .exit)) (now (host .exit)) (now (fixed .exit)) (now (gates .exit)))
         (λ i. getD (now (root .exit)) i 0) (λ i. getD (now (component .exit)) i 0) ⌝ }
     ensures { λ _. ⌜ allWeight (clustersOf (stageOf (now (nodes .entry)) (now (wires .entry)) (now (obstacles .entry)) stage) (now (lo .exit)) (now (hi .exit)) (now (host .exit)) (now (fixed .exit)) (now (gates .exit))) < 2 ^ 48 ⌝ }
+    ensures { λ _. ⌜ ((r : ℕ) → r < nodeCount (now (nodes .entry)) → getD (now (hi .exit)) r 0 < 65536) ⌝ }
 {
     find_cuttable(nodes, wires, obstacles, stage, lo, hi);
     find_roots(nodes, wires, stage, lo, root);

@@ -12,7 +12,7 @@ use Rattle.jumpers.specs.Scan.{Wired, Inside, Falling, Scanned, made, wh
 use Rattle.jumpers.specs.ScanLaws.{made-lower, whole-lower, leads-falling}
 use Rattle.jumpers.specs.ScanEnds.{inside-of, first-none}
 use Rattle.jumpers.specs.ScanWeights.{Bytes}
-use Rattle.jumpers.specs.ScanFits.{hosts-falling, scan-fits, scan-light}
+use Rattle.jumpers.specs.ScanFits.{hosts-falling, scan-fits, scan-light, scan-short}
 use Rattle.jumpers.proofs.scan.scan.Statement.{statement}
 use Rattle.jumpers.proofs.scan.scan.Tie as tie
 
@@ -210,7 +210,10 @@ returns c =
       weighed = f .weigh-clusters .ensures;
     } in (
       scan-fits (now (a .nodes)) (now (a .wires)) (now (a .obstacles)) (a .stage) (s .pre .0) (Lo t) (Hi t) (Root r) (Host h) (Component k) (Marks m) (Fixed f) (Gates g) scanned,
-      scan-light (now (a .nodes)) (now (a .wires)) (now (a .obstacles)) (a .stage) (s .pre .0) nodes wires (Lo t) (Hi t) (Root r) (Host h) (Component k) (Marks m) (Fixed f) (Gates g) scanned,
+      (
+        scan-light (now (a .nodes)) (now (a .wires)) (now (a .obstacles)) (a .stage) (s .pre .0) nodes wires (Lo t) (Hi t) (Root r) (Host h) (Component k) (Marks m) (Fixed f) (Gates g) scanned,
+        scan-short (now (a .nodes)) (now (a .wires)) (now (a .obstacles)) (a .stage) (s .pre .0) nodes (Lo t) (Hi t) (t .find-cuttable .ensures),
+      ),
     )
 
 pub scan-spec : {M : Type 1} → statement M

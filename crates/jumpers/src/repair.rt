@@ -1,0 +1,170 @@
+// Repair on an accepted net: the passes in order over work arrays, then the list.
+use crate::choose::choose;
+use crate::count::Count;
+use crate::count::count_pass;
+use crate::scan::scan;
+use net::layout::MOST_NODES;
+use net::records::node_count;
+ghost use mathlib.Core.Path.{_≡_};
+ghost use mathlib.Core.Bool.{false};
+ghost use Prim.Native.Nat.{ℕ, _≤_};
+ghost use lib.ListN.{length, getD};
+ghost use Rattle.net.specs.Layout.{mostNodes};
+ghost use Rattle.net.specs.Refusal.{none, netRefusal};
+ghost use Rattle.jumpers.specs.RepairLaws.{Plans};
+
+// The passes in order over lent work arrays: how many points are needed, with hi, near and high for the list of them; or that no set is legal.
+fn run(
+    nodes: &[u8],
+    wires: &[u8],
+    obstacles: &[u8],
+    stage: u8,
+    limit: u64,
+    lo: &mut [u64],
+    hi: &mut [u64],
+    root: &mut [usize],
+    host: &mut [usize],
+    component: &mut [usize],
+    sourced: &mut [bool],
+    fixed: &mut [u64],
+    gates: &mut [u64],
+    cut: &mut [bool],
+    fewest: &mut [u64],
+    any: &mut [bool],
+    anyweight: &mut [u64],
+    quiet: &mut [bool],
+    quietweight: &mut [u64],
+    count: &mut [u64],
+    lightest: &mut [u64],
+    ungatable: &mut [bool],
+    ungated: &mut [u64],
+    near: &mut [u64],
+    mode: &mut [bool],
+    high: &mut [bool],
+) -> Count
+    requires { ⌜ netRefusal (now nodes) (now wires) (now obstacles) ≡ none ⌝ }
+    requires { ⌜ (mostNodes ≤ length (now lo)) × (mostNodes ≤ length (now hi)) × (mostNodes ≤ length (now root)) × (mostNodes ≤ length (now host)) × (mostNodes ≤ length (now component)) × (mostNodes ≤ length (now sourced)) × (mostNodes ≤ length (now fixed)) × (mostNodes ≤ length (now gates)) × (mostNodes ≤ length (now cut)) × (mostNodes ≤ length (now fewest)) × (mostNodes ≤ length (now any)) × (mostNodes ≤ length (now anyweight)) × (mostNodes ≤ length (now quiet)) × (mostNodes ≤ length (now quietweight)) × (mostNodes ≤ length (now count)) × (mostNodes ≤ length (now lightest)) × (mostNodes ≤ length (now ungatable)) × (mostNodes ≤ length (now ungated)) × (mostNodes ≤ length (now near)) × (mostNodes ≤ length (now mode)) × (mostNodes ≤ length (now high)) ⌝ }
+    requires { ⌜ ((j : ℕ) → getD (now cut) j false ≡ false) ⌝ }
+    ensures { λ x. ⌜ Plans (now (nodes .entry)) (now (wires .entry)) (now (obstacles .entry)) stage limit (now (hi .exit)) (now (near .exit)) (now (high .exit)) (x .hopeless) (x .points) ⌝ }
+{
+    let n = node_count(nodes);
+    scan(
+        nodes,
+        wires,
+        obstacles,
+        stage,
+        lo,
+        hi,
+        root,
+        host,
+        component,
+        sourced,
+        fixed,
+        gates,
+    );
+    let found = count_pass(
+        nodes,
+        wires,
+        obstacles,
+        lo,
+        hi,
+        host,
+        fixed,
+        gates,
+        cut,
+        fewest,
+        any,
+        anyweight,
+        quiet,
+        quietweight,
+        count,
+        lightest,
+        ungatable,
+        ungated,
+        near,
+        n,
+        limit,
+    );
+    if found.hopeless {
+        return found;
+    }
+    choose(
+        n,
+        wires,
+        lo,
+        hi,
+        host,
+        cut,
+        any,
+        anyweight,
+        ungatable,
+        near,
+        limit,
+        mode,
+        high,
+    );
+    found
+}
+
+// The passes with their work arrays.
+fn plan(
+    nodes: &[u8],
+    wires: &[u8],
+    obstacles: &[u8],
+    stage: u8,
+    limit: u64,
+    hi: &mut [u64],
+    near: &mut [u64],
+    high: &mut [bool],
+) -> Count
+    requires { ⌜ netRefusal (now nodes) (now wires) (now obstacles) ≡ none ⌝ }
+    requires { ⌜ (mostNodes ≤ length (now hi)) × (mostNodes ≤ length (now near)) × (mostNodes ≤ length (now high)) ⌝ }
+    ensures { λ x. ⌜ Plans (now (nodes .entry)) (now (wires .entry)) (now (obstacles .entry)) stage limit (now (hi .exit)) (now (near .exit)) (now (high .exit)) (x .hopeless) (x .points) ⌝ }
+{
+    let mut lo = [0u64; MOST_NODES];
+    let mut root = [0usize; MOST_NODES];
+    let mut host = [0usize; MOST_NODES];
+    let mut component = [0usize; MOST_NODES];
+    let mut sourced = [false; MOST_NODES];
+    let mut fixed = [0u64; MOST_NODES];
+    let mut gates = [0u64; MOST_NODES];
+    let mut cut = [false; MOST_NODES];
+    let mut fewest = [0u64; MOST_NODES];
+    let mut any = [false; MOST_NODES];
+    let mut anyweight = [0u64; MOST_NODES];
+    let mut quiet = [false; MOST_NODES];
+    let mut quietweight = [0u64; MOST_NODES];
+    let mut count = [0u64; MOST_NODES];
+    let mut lightest = [0u64; MOST_NODES];
+    let mut ungatable = [false; MOST_NODES];
+    let mut ungated = [0u64; MOST_NODES];
+    let mut mode = [false; MOST_NODES];
+    run(
+        nodes,
+        wires,
+        obstacles,
+        stage,
+        limit,
+        &mut lo,
+        hi,
+        &mut root,
+        &mut host,
+        &mut component,
+        &mut sourced,
+        &mut fixed,
+        &mut gates,
+        &mut cut,
+        &mut fewest,
+        &mut any,
+        &mut anyweight,
+        &mut quiet,
+        &mut quietweight,
+        &mut count,
+        &mut lightest,
+        &mut ungatable,
+        &mut ungated,
+        near,
+        &mut mode,
+        high,
+    )
+}
