@@ -2,14 +2,14 @@
 -- Assumes nothing.
 use Prim.Native.Nat.{ℕ, _*_, _%_, _≤_, _<_}
 use mathlib.Core.Path.{_≡_, refl, sym, _∙_, ap}
-use mathlib.Core.Bool.{true, false, not}
+use mathlib.Core.Bool.{true, false, not, _||_}
 use mathlib.Core.List.{List, _++_}
 use native.Mathlib.Nat.{le-of-eq, zero-add}
 use native.Mathlib.Omega.{arith}
 use lib.ListN.{length, drop, getD, replicate, length-replicate, getD-replicate, List·getD-eq-default}
 use lib.Dec.{ltb, eqb}
-use borrow.Author.Tests.{lt-ltb, le-ltb, ltb-true, ltb-false, ne-eqb}
-use Rattle.laws.specs.Sums.{by}
+use borrow.Author.Tests.{lt-ltb, le-ltb, ltb-true, ltb-false, eqb-true, ne-eqb, not-false}
+use Rattle.laws.specs.Sums.{by, or-no-right}
 use Rattle.laws.specs.Place.{place}
 use Rattle.net.specs.declared.Answer.{Answer}
 use Rattle.net.specs.declared.Refusal.{Refusal}
@@ -18,7 +18,7 @@ use Rattle.net.specs.Stage.{Stage}
 use Rattle.net.specs.Refusal.{none, refusal, met, refusedIf, orElse, firstOf, lentRefusal, answer, stageRefusal, readRefusal, readAnswer, netRefusal, nodesOf, wiresOf, obstaclesOf}
 use Rattle.net.specs.Call.{netAt, callRefusal}
 use Rattle.net.specs.AcceptedIf.{net-none, accepted-right, answer-accepted}
-use Rattle.net.specs.First.{none-or, first-unmet, first-none, first-met, unmet-number}
+use Rattle.net.specs.First.{none-or, first-unmet, first-none, first-met, unmet-if, unmet-l, unmet-r, unmet-number}
 use Rattle.pieces.specs.JumperList.{entryCount, entryRefusal, listRefusal}
 use Rattle.pieces.specs.Report.{reportOf}
 use Rattle.pieces.specs.Reports.{report-length}
@@ -140,3 +140,20 @@ pub net-accepted : (file : List ℕ) → readRefusal file .number ≡ 0 → netR
 unfolding readAnswer answer
 net-accepted file e =
     sym (net-none (nodesOf file) (wiresOf file) (obstaclesOf file) (accepted-right file (answer-accepted file e) .net))
+
+-- a call that meets none of 1 to 11
+module _ (stage : ℕ) (file : List ℕ) (e : callRefusal stage file .number ≡ 0) where
+  pub call-unmet : met (callRefusal stage file) ≡ false
+  call-unmet = unmet-number (callRefusal stage file) e
+
+  pub call-stage : stage ≤ mostLayers
+  unfolding stageRefusal
+  call-stage =
+      ltb-false mostLayers stage
+      (or-no-right (eqb stage 0) (ltb mostLayers stage)
+      (unmet-if (eqb stage 0 || ltb mostLayers stage) 1 0 refl (unmet-l (stageRefusal stage) (readRefusal file) call-unmet)))
+
+  pub call-net : netRefusal (nodesOf file) (wiresOf file) (obstaclesOf file) ≡ none
+  call-net =
+      net-accepted file
+      (eqb-true (readRefusal file .number) 0 (not-false (eqb (readRefusal file .number) 0) (unmet-r (stageRefusal stage) (readRefusal file) call-unmet)))

@@ -4,17 +4,22 @@ use crate::count::piece_count;
 use crate::gather::gather;
 use crate::listing::write_records;
 use net::Answer;
+use net::Refusal;
 use net::answers::answered;
 use net::answers::none;
 use net::answers::refused;
+use net::layout::MOST_LAYERS;
 use net::layout::RECORD_BYTES;
+use net::read::read_refusal;
+use net::sections;
 ghost use mathlib.Core.Path.{_≡_};
 ghost use mathlib.Core.List.{List};
 ghost use Prim.Native.Nat.{ℕ};
 ghost use lib.ListN.{length};
 ghost use Rattle.net.specs.Stage.{stageOf};
 ghost use Rattle.net.specs.Refusal.{none, netRefusal};
-ghost use Rattle.records.specs.Promise.{piecesAnswer, piecesBuffer};
+ghost use Rattle.net.specs.Call.{callRefusal};
+ghost use Rattle.records.specs.Promise.{piecesAnswer, piecesBuffer, reportAnswer, reportBuffer};
 ghost use Rattle.records.specs.Judged.{Judged, Accepted};
 
 // A net and a list that are accepted: 16, or the records.
@@ -84,4 +89,37 @@ pub fn pieces(
         return answered(r, 0);
     }
     write_pieces(stage, limit, nodes, wires, jumpers, out)
+}
+
+// What is tried first: 1 on the stage, 2 to 11 on the file.
+fn call_refusal(stage: u32, file: &[u8]) -> Refusal
+    ensures { λ r. ⌜ r ≡ callRefusal stage (now (file .entry)) ⌝ }
+{
+    if stage == 0 {
+        return refused(1, 0);
+    }
+    if (MOST_LAYERS as u32) < stage {
+        return refused(1, 0);
+    }
+    read_refusal(file)
+}
+
+// The report on a net file at a stage: 1, 2 to 11, 12 to 14, 16, or the records.
+pub fn report(stage: u32, limit: u32, file: &[u8], jumpers: &[u8], out: &mut [u8]) -> Answer
+    ensures { λ a. ⌜ (a ≡ reportAnswer stage (now (file .entry)) (now (jumpers .entry)) (length (now (out .entry))))
+        × (now (out .exit) ≡ reportBuffer stage limit (now (file .entry)) (now (jumpers .entry)) (now (out .entry))) ⌝ }
+{
+    let r = call_refusal(stage, file);
+    if r.number != 0 {
+        return answered(r, 0);
+    }
+    pieces(
+        stage as u8,
+        limit,
+        sections::nodes(file),
+        sections::wires(file),
+        sections::obstacles(file),
+        jumpers,
+        out,
+    )
 }
