@@ -1,7 +1,7 @@
 -- The number of pieces of an accepted net with an accepted list.
 -- Assumes nothing.
-use Prim.Native.Nat.{ℕ, _+_, _-_, _<_}
-use mathlib.Core.Path.{_≡_, _∙_, ap}
+use Prim.Native.Nat.{ℕ, _+_, _-_}
+use mathlib.Core.Path.{_≡_, ap}
 use mathlib.Core.Bool.{Bool, _&&_}
 use mathlib.Core.List.{List}
 use native.Mathlib.Omega.{arith}

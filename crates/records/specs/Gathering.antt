@@ -5,14 +5,13 @@ use mathlib.Core.Path.{_≡_, refl, sym, _∙_, ap}
 use mathlib.Core.Bool.{Bool, true, false, _&&_, _||_}
 use mathlib.Core.List.{List}
 use native.Mathlib.Omega.{arith}
-use native.Mathlib.Numerals.{add-one}
 use lib.ListN.{length, getD, set}
 use lib.Seq.{getD-set-same, getD-set-other}
 use lib.Dec.{ltb, eqb}
 use lib.Bits.{bitOr, or-zero-r}
 use borrow.Author.Tests.{lt-ltb, eqb-true, eqb-false}
-use Rattle.laws.specs.Sum.{χ, sum, any}
-use Rattle.laws.specs.Sums.{by, and-no-left, and-no-right, χ-no, sum-next, last-or-below}
+use Rattle.laws.specs.Sum.{χ, any}
+use Rattle.laws.specs.Sums.{by, and-no-right, sum-next}
 use Rattle.laws.specs.Masks.{mask, mask-ap, mask-test, mask-or}
 use Rattle.net.specs.Layout.{mostLayers}
 use Rattle.net.specs.Net.{isGate, isSource}
@@ -21,7 +20,7 @@ use Rattle.pieces.specs.Piece.{Points}
 use Rattle.pieces.specs.Name.{Inside, cutAt, firstJumper, lastJumper, lowestNode}
 use Rattle.pieces.specs.Weight.{wireAdds}
 use Rattle.pieces.specs.Jumpers.{first-uncut, first-last}
-use Rattle.records.specs.Tests.{any-next, and-true, and-comm, or-false}
+use Rattle.records.specs.Tests.{any-next, and-comm, or-false}
 use Rattle.records.specs.Gathered.{flag, stepsIn, weightBelow, flagsBelow, layersBelow, Gathered}
 use Rattle.records.specs.NodeRecords.{layer-mask, two-flags}
 

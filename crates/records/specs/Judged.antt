@@ -1,7 +1,7 @@
 -- A net and a jumper list that are accepted, and what the passes over them may rely on. The passes read no obstacle: what they promise holds for whatever
 -- obstacles the net and the list are accepted with.
 -- Assumes nothing.
-use Prim.Native.Nat.{ℕ, _≤_, _<_}
+use Prim.Native.Nat.{ℕ, _≤_}
 use mathlib.Core.Path.{_≡_}
 use mathlib.Core.List.{List}
 use lib.ListN.{length, getD}

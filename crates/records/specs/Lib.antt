@@ -7,6 +7,7 @@ pub mod Judging
 pub mod Reached
 pub mod Listing
 pub mod Counting
+pub mod WeightFits
 pub mod Reporting
 pub mod StretchRecords
 pub mod Record

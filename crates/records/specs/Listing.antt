@@ -10,9 +10,9 @@ use lib.ListN.{length, getD, take, drop, length-append, length-drop}
 use lib.Seq.{take-all}
 use lib.Dec.{eqb}
 use borrow.Author.Tests.{eq-eqb, ne-eqb}
-use Rattle.laws.specs.Sum.{χ, any}
+use Rattle.laws.specs.Sum.{any}
 use Rattle.laws.specs.Sums.{by, χ-≤, sum-more}
-use Rattle.laws.specs.Gather.{only, gather}
+use Rattle.laws.specs.Gather.{gather}
 use Rattle.laws.specs.Gathers.{length-gather}
 use Rattle.laws.specs.Place.{place, place-more, place-part}
 use Rattle.net.specs.Layout.{recordBytes}

@@ -1,26 +1,25 @@
 -- The record of a piece with nodes, from what the pass over all wires has gathered.
 -- Assumes nothing.
-use Prim.Native.Nat.{ℕ, zero, suc, _+_, _-_, _^_, _%_, _/_, _≤_, _<_}
+use Prim.Native.Nat.{ℕ, suc, _+_, _-_, _^_, _≤_, _<_}
 use mathlib.Core.Path.{_≡_, refl, sym, _∙_, ap}
-use mathlib.Core.Bool.{Bool, true, false, not, _&&_, _||_, cond}
+use mathlib.Core.Bool.{Bool, true, false, not, _&&_, _||_}
 use mathlib.Core.Logic.{⊎-elim}
-use mathlib.Core.List.{List}
 use native.Mathlib.Omega.{arith}
 use lib.Dec.{ltb, eqb}
-use lib.Count.{ones, trailingZeros}
+use lib.Count.{ones}
 use borrow.Author.Tests.{ltb-true, lt-ltb, eqb-true, eq-eqb, ne-eqb}
 use Rattle.laws.specs.Sum.{χ, sum, any, lowest}
-use Rattle.laws.specs.Sums.{by, no-both, and-left, and-right, and-intro, or-left, or-right, or-cases, χ-yes, χ-no, any-yes, any-some}
+use Rattle.laws.specs.Sums.{by, and-left, and-right, and-intro, or-left, or-right, or-cases, any-yes, any-some}
 use Rattle.laws.specs.Masks.{mask, mask-ap, mask-one, mask-ones, mask-lowest, mask-none, mask-some}
 use Rattle.net.specs.Layout.{mostLayers}
 use Rattle.net.specs.Net.{isGate, isSource}
-use Rattle.net.specs.Stage.{Stage, Formed}
-use Rattle.pieces.specs.Piece.{Points, Element, node, step, Real, a-node, a-step, Group, weightOf}
+use Rattle.net.specs.Stage.{Stage}
+use Rattle.pieces.specs.Piece.{Points, node, step, a-step, Group, weightOf}
 use Rattle.pieces.specs.Name.{Inside, cutAt, firstJumper, lastJumper, lowestNode, named}
 use Rattle.pieces.specs.Weight.{nodeWeight}
 use Rattle.pieces.specs.Weights.{class-weight}
 use Rattle.pieces.specs.Jumpers.{first-≤, first-last, above-first-cut, step-cases, number-low, number-high, position-low, position-high, position-mid, below-mid}
-use Rattle.pieces.specs.Named.{real-is, named-yes, named-number, named-position, named-real}
+use Rattle.pieces.specs.Named.{named-yes, named-number, named-position}
 use Rattle.pieces.specs.Report.{Name, name, groupOf, hasGate, hasSource, isHarmful, flagsOf, hasLayer, layersOf, layerCount, lowestLayer, recordOf}
 use Rattle.records.specs.Record.{lowestOf, fields}
 use Rattle.records.specs.Tests.{same-test, any-ap, and-true, and-comm}

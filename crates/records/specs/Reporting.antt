@@ -1,21 +1,20 @@
 -- Which answer each ending of the report gives, and what the lent buffer then holds.
 -- Assumes nothing.
 use Prim.Native.Nat.{ℕ, _*_, _%_, _≤_, _<_}
-use mathlib.Core.Path.{_≡_, refl, sym, _∙_, ap}
+use mathlib.Core.Path.{_≡_, refl, sym, _∙_}
 use mathlib.Core.Bool.{true, false, not, _||_}
-use mathlib.Core.List.{List, _++_}
+use mathlib.Core.List.{List}
 use native.Mathlib.Nat.{le-of-eq, zero-add}
 use native.Mathlib.Omega.{arith}
-use lib.ListN.{length, drop, getD, replicate, length-replicate, getD-replicate, List·getD-eq-default}
+use lib.ListN.{length, replicate, length-replicate, getD-replicate, List·getD-eq-default}
 use lib.Dec.{ltb, eqb}
 use borrow.Author.Tests.{lt-ltb, le-ltb, ltb-true, ltb-false, eqb-true, ne-eqb, not-false}
 use Rattle.laws.specs.Sums.{by, or-no-right}
 use Rattle.laws.specs.Place.{place}
-use Rattle.net.specs.declared.Answer.{Answer}
 use Rattle.net.specs.declared.Refusal.{Refusal}
 use Rattle.net.specs.Layout.{entryBytes, recordBytes, mostLayers}
 use Rattle.net.specs.Stage.{Stage}
-use Rattle.net.specs.Refusal.{none, refusal, met, refusedIf, orElse, firstOf, lentRefusal, answer, stageRefusal, readRefusal, readAnswer, netRefusal, nodesOf, wiresOf, obstaclesOf}
+use Rattle.net.specs.Refusal.{none, refusal, met, refusedIf, firstOf, lentRefusal, answer, stageRefusal, readRefusal, readAnswer, netRefusal, nodesOf, wiresOf, obstaclesOf}
 use Rattle.net.specs.Call.{netAt, callRefusal}
 use Rattle.net.specs.AcceptedIf.{net-none, accepted-right, answer-accepted}
 use Rattle.net.specs.First.{none-or, first-unmet, first-none, first-met, unmet-if, unmet-l, unmet-r, unmet-number}

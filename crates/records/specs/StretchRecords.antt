@@ -1,31 +1,31 @@
 -- The records of the stretches of a wire between its jumpers, from the entries of a jumper list.
 -- Assumes nothing.
 use Prim.Native.Nat.{ℕ, zero, suc, _+_, _-_, _*_, _^_, _≤_, _<_}
-use mathlib.Core.Path.{_≡_, refl, sym, _∙_, ap}
-use mathlib.Core.Bool.{Bool, true, false, _&&_, _||_}
+use mathlib.Core.Path.{_≡_, refl, _∙_, ap}
+use mathlib.Core.Bool.{Bool, true, false, _&&_}
 use mathlib.Core.Logic.{⊎-elim}
 use mathlib.Core.List.{List, [], _∷_, _++_, append-nil}
 use native.Mathlib.Omega.{arith}
 use lib.Dec.{ltb, eqb}
 use borrow.Author.Tests.{ltb-true, lt-ltb, eqb-true, eq-eqb, ne-eqb}
-use Rattle.laws.specs.Sum.{χ, any, highest}
-use Rattle.laws.specs.Sums.{and-left, and-right, and-intro, and-no-right, χ-no, any-yes, any-none, any-some, last-or-below, highest-last}
-use Rattle.laws.specs.Masks.{mask, mask-ap, mask-one}
+use Rattle.laws.specs.Sum.{any}
+use Rattle.laws.specs.Sums.{and-left, and-right, and-intro, and-no-right, any-yes, any-none, any-some, last-or-below, highest-last}
+use Rattle.laws.specs.Masks.{mask-ap}
 use Rattle.laws.specs.Gather.{only, gather}
 use Rattle.net.specs.Layout.{mostLayers}
 use Rattle.net.specs.Stage.{Stage, Formed}
-use Rattle.pieces.specs.Piece.{Points, node, step, Real, a-step, weightOf}
+use Rattle.pieces.specs.Piece.{Points, node, step, a-step}
 use Rattle.pieces.specs.Name.{Inside, firstJumper, lastJumper, named}
-use Rattle.pieces.specs.Legal.{entryWire, entryPosition, listed}
+use Rattle.pieces.specs.Legal.{entryPosition, listed}
 use Rattle.pieces.specs.Weights.{stretch-weight}
 use Rattle.pieces.specs.Jumpers.{first-least, last-most, number-mid, position-mid}
 use Rattle.pieces.specs.Named.{named-yes, stretch-no-node, named-stretch}
-use Rattle.pieces.specs.Report.{Name, name, stretchNames, hasGate, hasSource, isHarmful, flagsOf, hasLayer, layersOf, recordOf}
+use Rattle.pieces.specs.Report.{name, stretchNames, hasGate, hasSource, isHarmful, flagsOf, hasLayer, layersOf, recordOf}
 use Rattle.records.specs.Record.{fields}
 use Rattle.records.specs.Tests.{same-test, or-false}
 use Rattle.records.specs.NodeRecords.{record-fields, layer-mask}
 use Rattle.records.specs.Entries.{EntriesFree, Rising}
-use Rattle.records.specs.EntriesOfWire.{OfWire, entry-jumper, jumper-entry, positions-rise, position-inside, none-between, of-wire-last}
+use Rattle.records.specs.EntriesOfWire.{OfWire, entry-jumper, jumper-entry, positions-rise, position-inside, of-wire-last}
 
 -- ---- the record of the stretch between the consecutive jumpers p and q of wire i
 module _ (s : Stage) (J : Points) (formed : Formed s) (inside : Inside s J)

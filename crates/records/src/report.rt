@@ -9,6 +9,7 @@ use net::answers::answered;
 use net::answers::none;
 use net::answers::refused;
 use net::layout::MOST_LAYERS;
+use net::layout::MOST_NODES;
 use net::layout::RECORD_BYTES;
 use net::read::read_refusal;
 use net::sections;
@@ -36,10 +37,10 @@ fn write_pieces(
         (r ≡ piecesAnswer (stageOf (now (nodes .entry)) (now (wires .entry)) os stage) (now (jumpers .entry)) (length (now (out .entry))))
         × (now (out .exit) ≡ piecesBuffer (stageOf (now (nodes .entry)) (now (wires .entry)) os stage) limit (now (jumpers .entry)) (now (out .entry)))) ⌝ }
 {
-    let mut lowest = [0usize; 256];
-    let mut weight = [0u64; 256];
-    let mut flags = [0u8; 256];
-    let mut layers = [0u16; 256];
+    let mut lowest = [0usize; MOST_NODES];
+    let mut weight = [0u64; MOST_NODES];
+    let mut flags = [0u8; MOST_NODES];
+    let mut layers = [0u16; MOST_NODES];
     gather(
         stage,
         nodes,

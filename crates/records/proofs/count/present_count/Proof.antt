@@ -1,13 +1,12 @@
 -- `records::count::present_count` meets its contract.
 -- Assumes nothing.
-use Prim.Native.Nat.{ℕ, _+_, _-_, _*_, _≤_}
+use Prim.Native.Nat.{_-_, _≤_}
 use mathlib.Core.Path.{_≡_, refl, sym, _∙_}
 use mathlib.Core.Bool.{_&&_}
 use mathlib.Core.Logic.{⊎-elim}
 use native.Mathlib.Omega.{arith}
 use lib.Dec.{ltb, leb}
 use borrow.Author.Needs.{needs}
-use Rattle.net.specs.Layout.{wireBytes}
 use Rattle.laws.specs.Sums.{sum-next, χ-yes, χ-no}
 use Rattle.laws.specs.Sum.{χ, sum}
 use Rattle.net.specs.Net.{wireLayer}

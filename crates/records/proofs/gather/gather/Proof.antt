@@ -1,12 +1,11 @@
 -- `records::gather::gather` meets its contract.
 -- Assumes nothing.
-use Prim.Native.Nat.{_+_, _-_, _*_, _≤_}
-use mathlib.Core.Path.{_≡_, refl, sym, _∙_}
+use Prim.Native.Nat.{_-_, _*_, _≤_}
+use mathlib.Core.Path.{_≡_, refl, _∙_}
 use native.Mathlib.Omega.{arith}
-use lib.ListN.{length, getD}
+use lib.ListN.{length}
 use borrow.Author.Needs.{needs}
 use Rattle.net.specs.Net.{nodeCount}
-use Rattle.pieces.specs.JumperList.{entryCount}
 use Rattle.records.specs.Judged.{GatheredBelow, AtMost}
 use Rattle.records.specs.Reached.{Reached, reached-none, reached-wire, reached-next, reached-all, gathered-none}
 use Rattle.records.proofs.gather.gather.Statement.{statement}

@@ -1,6 +1,6 @@
 -- `records::listing::with_harm` meets its contract.
 -- Assumes nothing.
-use mathlib.Core.Path.{_≡_, sym, _∙_}
+use mathlib.Core.Path.{sym, _∙_}
 use native.Mathlib.Omega.{arith}
 use lib.Bits.{or-shifted-r}
 use borrow.Author.Tests.{not-true, not-false, le-ltb, lt-ltb}

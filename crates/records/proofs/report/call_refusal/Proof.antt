@@ -1,6 +1,6 @@
 -- `records::report::call_refusal` meets its contract.
 -- Assumes nothing.
-use mathlib.Core.Path.{_≡_, refl, _∙_}
+use mathlib.Core.Path.{refl, _∙_}
 use borrow.Author.Needs.{needs}
 use Rattle.net.specs.Refusal.{none, stageRefusal, readRefusal}
 use Rattle.net.specs.First.{first-of, rest-of}

@@ -1,9 +1,7 @@
 -- `records::report::pieces` meets its contract.
 -- Assumes nothing.
-use Prim.Native.Nat.{ℕ}
-use mathlib.Core.Path.{_≡_, sym, _∙_, ap}
+use mathlib.Core.Path.{_∙_}
 use borrow.Author.Needs.{needs}
-use Rattle.net.specs.declared.Refusal.{Refusal}
 use Rattle.net.specs.Accepted.{net-right}
 use Rattle.net.specs.First.{met-number}
 use Rattle.net.specs.Stage.{stageOf}

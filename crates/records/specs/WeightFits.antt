@@ -1,0 +1,36 @@
+-- The weight of every group of steps of an accepted net is below 2 ^ 32, so a record's weight field holds it whole.
+-- Assumes nothing.
+use Prim.Native.Nat.{ℕ, suc, _+_, _-_, _*_, _^_, _≤_, _<_}
+use mathlib.Core.List.{List}
+use native.Mathlib.Omega.{arith}
+use native.Mathlib.Nat.{mul-le-mul}
+use Rattle.laws.specs.Bytes.{Bytes}
+use Rattle.laws.specs.Sum.{χ, sum}
+use Rattle.laws.specs.Sums.{by, χ-≤, sum-bound}
+use Rattle.net.specs.Layout.{wireBytes}
+use Rattle.net.specs.Net.{nodeCount, wireFactor, wireLength}
+use Rattle.net.specs.Stage.{stageOf}
+use Rattle.net.specs.Accepted.{NetRight, present-positive, present-inside}
+use Rattle.points.specs.Geometry.{checked-of, length-small}
+use Rattle.pieces.specs.Piece.{step, Group, weightOf}
+
+module _ (ns ws os : List ℕ) (right : NetRight ns ws os) (nodes : Bytes ns) (wires : Bytes ws) (k : ℕ) (P : Group) where
+  wire-fits : (i : ℕ) →
+      χ (stageOf ns ws os k .present i) (sum (wireLength ns ws i) (λ t. χ (P (step i (suc t))) (wireFactor ws i))) ≤ 16711425
+  wire-fits i =
+      by (stageOf ns ws os k .present i)
+      (λ y.
+      let checked = checked-of right i (present-positive ns ws os k i y) (present-inside ns ws os k i y) in
+      let len : wireLength ns ws i ≤ 65535 = omega (arith, length-small ns ws i nodes checked) in
+      let factor : wireFactor ws i ≤ 255 = omega (arith, wires (wireBytes * (i - 1) + 2)) in
+      let most = sum-bound (wireLength ns ws i) (wireFactor ws i) {f = λ t. χ (P (step i (suc t))) (wireFactor ws i)} (λ t p. χ-≤ (P (step i (suc t))) (wireFactor ws i)) in
+      rw y (omega (arith, mul-le-mul len factor)))
+      (λ z. rw z (omega arith))
+
+  pub weight-fits : weightOf (stageOf ns ws os k) P < 2 ^ 32
+  unfolding weightOf stageOf
+  weight-fits =
+      let most =
+      sum-bound (nodeCount ns) 16711425
+      {f = λ i. χ (stageOf ns ws os k .present i) (sum (wireLength ns ws i) (λ t. χ (P (step i (suc t))) (wireFactor ws i)))} (λ i p. wire-fits i) in
+      omega (arith, right .sized .few-nodes)
