@@ -32,6 +32,7 @@ extern "C" {
 /* Refusals: the number of an answer. The place is given behind each. */
 enum {
     ANTENNA_DONE = 0,              /* no refusal: place 0 */
+    ANTENNA_STAGE = 1,             /* stage outside 1 to 16: 0 */
     ANTENNA_HEAD = 2,              /* file under 28 bytes, or version not 1, or pair count not 3: 0 */
     ANTENNA_PAIRS = 3,             /* a section does not begin where the one before ends, the first at 28, the last ending with the file: 0 */
     ANTENNA_NODE_SECTION = 4,      /* node section not in fives, or not 1 to 256 nodes: 0 */
@@ -42,13 +43,17 @@ enum {
     ANTENNA_WIRE_RANGE = 9,        /* layer not 1 to 16, or factor 0: the wire */
     ANTENNA_WIRE_ENDS = 10,        /* ends differ in x and y: the wire */
     ANTENNA_OBSTACLE_CORNERS = 11, /* corners reversed: the obstacle, from 0 */
+    ANTENNA_JUMPER_LIST = 12,      /* jumper list not in threes: 0; or an entry not after the one before: the entry, from 0 */
+    ANTENNA_JUMPER_POINT = 13,     /* no such wire, a wire absent at the stage, or a position outside it: the entry */
+    ANTENNA_JUMPER_BARRED = 14,    /* an obstacle holds the point: the entry */
     ANTENNA_BUFFER = 16            /* more bytes are needed than were lent: the bytes needed */
 };
 
-/* The flags of a node. */
+/* The flags of a node, and of a piece record. */
 enum {
     ANTENNA_GATE = 1,
-    ANTENNA_SOURCE = 2
+    ANTENNA_SOURCE = 2,
+    ANTENNA_HARMFUL = 4 /* of a record only */
 };
 
 /* What every call returns. After a refusal count is 0. */
@@ -79,6 +84,26 @@ antenna_answer antenna_write(const uint8_t *nodes, size_t nodes_len,
                              const uint8_t *wires, size_t wires_len,
                              const uint8_t *obstacles, size_t obstacles_len,
                              uint8_t *out, size_t out_len);
+
+/*
+ * Reports every piece of the stage (the wires of layer at most `stage`) with
+ * the jumpers in place. Tries refusals 1 to 11, 12 to 14, then 16.
+ * Count: the number of records.
+ *
+ * Jumper list: wire (8 bits), position (16 bits) each, strictly rising by
+ * wire, then position. Position t lies t steps from node i towards its parent.
+ *
+ * Piece record, 12 bytes: number (8), position (16), weight (32), flags (8:
+ * 1 gate, 2 source, 4 harmful), layers (16: bit n - 1 for layer n), the number
+ * of layers (8), the lowest layer (8; 0 if it has no step). A piece with nodes
+ * is named by its lowest node and position 0, another by its wire and the
+ * lower of its two jumper positions. Records rise by number, then position.
+ * A piece is harmful if it has a gate, no source, and weighs more than limit.
+ */
+antenna_answer antenna_report(uint32_t stage, uint32_t limit,
+                              const uint8_t *file, size_t file_len,
+                              const uint8_t *jumpers, size_t jumpers_len,
+                              uint8_t *out, size_t out_len);
 
 #ifdef __cplusplus
 }

@@ -22,6 +22,16 @@ extern "C" {
         out: *mut u8,
         out_len: usize,
     ) -> Answer;
+    fn antenna_report(
+        stage: u32,
+        limit: u32,
+        file: *const u8,
+        file_len: usize,
+        jumpers: *const u8,
+        jumpers_len: usize,
+        out: *mut u8,
+        out_len: usize,
+    ) -> Answer;
 }
 
 pub fn read(file: &[u8]) -> Answer {
@@ -37,6 +47,21 @@ pub fn write(nodes: &[u8], wires: &[u8], obstacles: &[u8], out: &mut [u8]) -> An
             wires.len(),
             obstacles.as_ptr(),
             obstacles.len(),
+            out.as_mut_ptr(),
+            out.len(),
+        )
+    }
+}
+
+pub fn report(stage: u32, limit: u32, file: &[u8], jumpers: &[u8], out: &mut [u8]) -> Answer {
+    unsafe {
+        antenna_report(
+            stage,
+            limit,
+            file.as_ptr(),
+            file.len(),
+            jumpers.as_ptr(),
+            jumpers.len(),
             out.as_mut_ptr(),
             out.len(),
         )

@@ -7,7 +7,8 @@ use antenna_tests::library;
 use antenna_tests::plain;
 use antenna_tests::random::Random;
 use antenna_tests::reference::net::Net;
-use antenna_tests::{Read, Write};
+use antenna_tests::reference::report::{free_points, list_of};
+use antenna_tests::{Read, Report, Write};
 use std::hint::black_box;
 use std::time::Instant;
 
@@ -78,6 +79,33 @@ fn read_and_write() {
     );
 }
 
+fn report() {
+    let shape = Shape {
+        nodes: 256,
+        longest: 600,
+        obstacles: 8,
+    };
+    let net = net(&mut Random::new(2), shape);
+    let points = free_points(&net, 16);
+    let every = points.len() / 20_000;
+    let jumpers: Vec<_> = points.into_iter().step_by(every).take(20_000).collect();
+    assert_eq!(jumpers.len(), 20_000);
+    let (file, list) = (net.file(), list_of(&jumpers));
+    let report = |call: Report| {
+        let (file, list) = (&file, &list);
+        let mut out = vec![0; 12 * 20_256];
+        move || {
+            let answer = black_box(call)(16, 1000, black_box(file), list, &mut out);
+            assert_eq!(answer.number, 0);
+        }
+    };
+    print(
+        "report, 256 nodes, 20,000 jumpers",
+        race(5, report(library::report), report(plain::report::report)),
+    );
+}
+
 fn main() {
     read_and_write();
+    report();
 }

@@ -3,6 +3,7 @@ use net::Answer;
 ghost use mathlib.Core.Path.{_≡_};
 ghost use lib.ListN.{length};
 ghost use Rattle.net.specs.Refusal.{readAnswer, writeAnswer, writeBuffer};
+ghost use Rattle.records.specs.Promise.{reportAnswer, reportBuffer};
 
 // Reads a net file alone: 2 to 11, or the number of nodes.
 #[no_mangle]
@@ -23,4 +24,18 @@ pub extern "C" fn antenna_write(
     ensures { λ r. ⌜ (r ≡ writeAnswer (now (nodes .entry)) (now (wires .entry)) (now (obstacles .entry)) (length (now (out .entry)))) × (now (out .exit) ≡ writeBuffer (now (nodes .entry)) (now (wires .entry)) (now (obstacles .entry)) (now (out .entry))) ⌝ }
 {
     net::write::write(nodes, wires, obstacles, out)
+}
+
+// Reports every piece of a net at a stage with jumpers in place: 1, 2 to 11, 12 to 14, 16, or the number of records.
+#[no_mangle]
+pub extern "C" fn antenna_report(
+    stage: u32,
+    limit: u32,
+    file: &[u8],
+    jumpers: &[u8],
+    out: &mut [u8],
+) -> Answer
+    ensures { λ r. ⌜ (r ≡ reportAnswer stage (now (file .entry)) (now (jumpers .entry)) (length (now (out .entry)))) × (now (out .exit) ≡ reportBuffer stage limit (now (file .entry)) (now (jumpers .entry)) (now (out .entry))) ⌝ }
+{
+    records::report::report(stage, limit, file, jumpers, out)
 }
