@@ -110,9 +110,9 @@ pub fn report(stage: u32, limit: u32, file: &[u8], jumpers: &[u8], out: &mut [u8
     ensures { λ a. ⌜ (a ≡ reportAnswer stage (now (file .entry)) (now (jumpers .entry)) (length (now (out .entry))))
         × (now (out .exit) ≡ reportBuffer stage limit (now (file .entry)) (now (jumpers .entry)) (now (out .entry))) ⌝ }
 {
-    let r = call_refusal(stage, file);
-    if r.number != 0 {
-        return answered(r, 0);
+    let first = call_refusal(stage, file);
+    if first.number != 0 {
+        return answered(first, 0);
     }
     pieces(
         stage as u8,
