@@ -3,13 +3,17 @@
 use Prim.Native.Nat.{ℕ, zero, suc, _+_, _*_, _^_, _≤_, _<_}
 use mathlib.Core.Path.{_≡_, refl, sym, _∙_, ap}
 use mathlib.Core.Bool.{Bool, true, false, not, _&&_}
-use mathlib.Core.List.{List}
-use lib.ListN.{length, getD, replicate}
+use mathlib.Core.List.{List, _++_}
+use lib.ListN.{length, getD, drop, replicate}
 use lib.Dec.{leb, ltb}
 use native.Mathlib.Omega.{arith}
 use borrow.Author.Tests.{ltb-true, lt-ltb}
-use Rattle.laws.specs.Sums.{by, and-left, χ-yes, sum-ap}
 use Rattle.laws.specs.Sum.{χ, sum}
+use Rattle.laws.specs.Sums.{and-left, sum-bound}
+use Rattle.laws.specs.Lists.{over}
+use Rattle.net.specs.declared.Answer.{Answer}
+use Rattle.net.specs.Layout.{entryBytes}
+use Rattle.net.specs.Refusal.{none, refusal, answer}
 use Rattle.net.specs.Net.{nodeCount, wireFactor, wireLength, barred}
 use Rattle.net.specs.Stage.{Stage, Formed, stageOf}
 use Rattle.net.specs.Accepted.{NetRight, formed}
@@ -27,7 +31,9 @@ use Rattle.jumpers.specs.Climb.{openAt}
 use Rattle.jumpers.specs.Count.{workClusters, Ready, Hopeless, rootSum}
 use Rattle.jumpers.specs.Choose.{Chooses, Choosable}
 use Rattle.jumpers.specs.ChooseLaws.{chosen-of}
+use Rattle.jumpers.specs.Promise.{Judged, too-short, done}
 use Rattle.jumpers.specs.Listing.{listOf, countOf}
+use Rattle.jumpers.specs.ListingWriting.{length-listOf}
 use Rattle.jumpers.specs.ListingPoints.{Listable}
 use Rattle.jumpers.specs.ListingSmallest.{listable, smallest-list, count-is-total}
 
@@ -140,3 +146,27 @@ pub all-false : (n j : ℕ) → getD (replicate n false) j false ≡ false
 all-false zero j = refl
 all-false (suc n) zero = refl
 all-false (suc n) (suc j) = all-false n j
+
+-- a wire has at most two jumpers
+pub count-few : (n : ℕ) (near : List ℕ) (high : List Bool) → countOf n near high ≤ n * 2
+count-few n near high = sum-bound n 2 (λ r p. two (ltb 0 (getD near r 0)) (getD high r false))
+  where
+    two : (a b : Bool) → χ a 1 + χ b 1 ≤ 2
+    two true true = omega arith
+    two true false = omega arith
+    two false true = omega arith
+    two false false = omega arith
+
+module _ {s : Stage} {limit : ℕ} {hi near : List ℕ} {high : List Bool} {points : ℕ} {out : List ℕ} {r : Answer} (p : Planned s limit hi near high points) where
+  pub judged-short : length out < entryBytes * points → r ≡ answer (refusal 16 (entryBytes * points)) 0 → Judged s limit out out r
+  judged-short lt e =
+      let q = p .points-is in
+      too-short (listOf (s .nodes) hi near high) (countOf (s .nodes) near high) (p .smallest) (omega arith)
+      (e ∙ ap (λ (x : ℕ). answer (refusal 16 (entryBytes * x)) 0) q) refl
+
+  pub judged-done :
+      {after : List ℕ} → entryBytes * points ≤ length out → r ≡ answer none points → after ≡ over (listOf (s .nodes) hi near high) out → Judged s limit out after r
+  judged-done le e a =
+      let q = p .points-is in
+      done (listOf (s .nodes) hi near high) (countOf (s .nodes) near high) (p .smallest) (omega arith) (e ∙ ap (answer none) q)
+      (a ∙ ap (λ (x : ℕ). listOf (s .nodes) hi near high ++ drop x out) (length-listOf hi near high (s .nodes)))

@@ -2,7 +2,11 @@
 use crate::choose::choose;
 use crate::count::Count;
 use crate::count::count_pass;
+use crate::list::write_list;
 use crate::scan::scan;
+use net::Answer;
+use net::answers;
+use net::layout::ENTRY_BYTES;
 use net::layout::MOST_NODES;
 use net::records::node_count;
 ghost use mathlib.Core.Path.{_≡_};
@@ -10,7 +14,9 @@ ghost use mathlib.Core.Bool.{false};
 ghost use Prim.Native.Nat.{ℕ, _≤_};
 ghost use lib.ListN.{length, getD};
 ghost use Rattle.net.specs.Layout.{mostNodes};
+ghost use Rattle.net.specs.Stage.{stageOf};
 ghost use Rattle.net.specs.Refusal.{none, netRefusal};
+ghost use Rattle.jumpers.specs.Promise.{Judged};
 ghost use Rattle.jumpers.specs.RepairLaws.{Plans};
 
 // The passes in order over lent work arrays: how many points are needed, with hi, near and high for the list of them; or that no set is legal.
@@ -167,4 +173,42 @@ fn plan(
         &mut mode,
         high,
     )
+}
+
+// Repair on an accepted net: 15, 16, or the list of a smallest legal set.
+pub fn judge(
+    nodes: &[u8],
+    wires: &[u8],
+    obstacles: &[u8],
+    stage: u8,
+    limit: u32,
+    out: &mut [u8],
+) -> Answer
+    requires { ⌜ netRefusal (now nodes) (now wires) (now obstacles) ≡ none ⌝ }
+    ensures { λ r. ⌜ Judged (stageOf (now (nodes .entry)) (now (wires .entry)) (now (obstacles .entry)) stage) limit (now (out .entry)) (now (out .exit)) r ⌝ }
+{
+    let n = node_count(nodes);
+    let mut hi = [0u64; MOST_NODES];
+    let mut near = [0u64; MOST_NODES];
+    let mut high = [false; MOST_NODES];
+    let found = plan(
+        nodes,
+        wires,
+        obstacles,
+        stage,
+        limit as u64,
+        &mut hi,
+        &mut near,
+        &mut high,
+    );
+    if found.hopeless {
+        return answers::answered(answers::refused(15, 0), 0);
+    }
+    let points = found.points;
+    let needed = (ENTRY_BYTES as u64) * points;
+    if (out.len() as u64) < needed {
+        return answers::answered(answers::refused(16, needed), 0);
+    }
+    write_list(n, &hi, &near, &high, out);
+    answers::answered(answers::none(), points)
 }
