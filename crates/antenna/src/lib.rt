@@ -1,7 +1,12 @@
 // The public calls of the desk as C exports. Each takes any input and carries the whole promise of the call behind it.
+use jumpers::repair::judge;
 use net::Answer;
+use net::answers::answered;
+use net::sections;
+use records::report::call_refusal;
 ghost use mathlib.Core.Path.{_≡_};
 ghost use lib.ListN.{length};
+ghost use Rattle.jumpers.specs.Promise.{Repaired};
 ghost use Rattle.net.specs.Refusal.{readAnswer, writeAnswer, writeBuffer};
 ghost use Rattle.records.specs.Promise.{reportAnswer, reportBuffer};
 
@@ -38,4 +43,23 @@ pub extern "C" fn antenna_report(
     ensures { λ r. ⌜ (r ≡ reportAnswer stage (now (file .entry)) (now (jumpers .entry)) (length (now (out .entry)))) × (now (out .exit) ≡ reportBuffer stage limit (now (file .entry)) (now (jumpers .entry)) (now (out .entry))) ⌝ }
 {
     records::report::report(stage, limit, file, jumpers, out)
+}
+
+// Finds a smallest legal jumper set of a net at a stage under a limit: 1, 2 to 11, 15, 16, or the number of jumpers written.
+#[no_mangle]
+pub extern "C" fn antenna_repair(stage: u32, limit: u32, file: &[u8], out: &mut [u8]) -> Answer
+    ensures { λ r. ⌜ Repaired stage limit (now (file .entry)) (now (out .entry)) (now (out .exit)) r ⌝ }
+{
+    let r = call_refusal(stage, file);
+    if r.number != 0 {
+        return answered(r, 0);
+    }
+    judge(
+        sections::nodes(file),
+        sections::wires(file),
+        sections::obstacles(file),
+        stage as u8,
+        limit,
+        out,
+    )
 }

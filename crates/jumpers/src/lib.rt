@@ -4,5 +4,5 @@ mod climb;
 mod close;
 mod count;
 mod list;
-mod repair;
+pub mod repair;
 mod scan;

@@ -93,7 +93,7 @@ pub fn pieces(
 }
 
 // What is tried first: 1 on the stage, 2 to 11 on the file.
-fn call_refusal(stage: u32, file: &[u8]) -> Refusal
+pub fn call_refusal(stage: u32, file: &[u8]) -> Refusal
     ensures { λ r. ⌜ r ≡ callRefusal stage (now (file .entry)) ⌝ }
 {
     if stage == 0 {
