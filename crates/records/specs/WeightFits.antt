@@ -1,18 +1,21 @@
 -- The weight of every group of steps of an accepted net is below 2 ^ 32, so a record's weight field holds it whole.
 -- Assumes nothing.
 use Prim.Native.Nat.{ℕ, suc, _+_, _-_, _*_, _^_, _≤_, _<_}
+use mathlib.Core.Path.{_≡_}
 use mathlib.Core.List.{List}
 use native.Mathlib.Omega.{arith}
 use native.Mathlib.Nat.{mul-le-mul}
-use Rattle.laws.specs.Bytes.{Bytes}
+use Rattle.laws.specs.Bytes.{Bytes, le32}
+use Rattle.laws.specs.Numbers.{le32-bytes32}
 use Rattle.laws.specs.Sum.{χ, sum}
 use Rattle.laws.specs.Sums.{by, χ-≤, sum-bound}
 use Rattle.net.specs.Layout.{wireBytes}
 use Rattle.net.specs.Net.{nodeCount, wireFactor, wireLength}
-use Rattle.net.specs.Stage.{stageOf}
+use Rattle.net.specs.Stage.{Stage, stageOf}
 use Rattle.net.specs.Accepted.{NetRight, present-positive, present-inside}
 use Rattle.points.specs.Geometry.{checked-of, length-small}
-use Rattle.pieces.specs.Piece.{step, Group, weightOf}
+use Rattle.pieces.specs.Piece.{Points, step, Group, weightOf}
+use Rattle.pieces.specs.Report.{Name, groupOf, recordOf}
 
 module _ (ns ws os : List ℕ) (right : NetRight ns ws os) (nodes : Bytes ns) (wires : Bytes ws) (k : ℕ) (P : Group) where
   wire-fits : (i : ℕ) →
@@ -34,3 +37,9 @@ module _ (ns ws os : List ℕ) (right : NetRight ns ws os) (nodes : Bytes ns) (w
       sum-bound (nodeCount ns) 16711425
       {f = λ i. χ (stageOf ns ws os k .present i) (sum (wireLength ns ws i) (λ t. χ (P (step i (suc t))) (wireFactor ws i)))} (λ i p. wire-fits i) in
       omega (arith, right .sized .few-nodes)
+
+-- so the weight field of a record is the weight of its piece
+pub weight-field : (s : Stage) (limit : ℕ) (J : Points) (n : Name) → weightOf s (groupOf s J n) < 2 ^ 32 →
+    le32 (recordOf s limit J n) 3 ≡ weightOf s (groupOf s J n)
+unfolding recordOf
+weight-field s limit J n h = le32-bytes32 (weightOf s (groupOf s J n)) h

@@ -1,8 +1,8 @@
 // The piece report: the jumper list checked, the pieces gathered wire by wire, their records written.
-pub mod check;
+mod check;
 mod count;
 mod gather;
 mod listing;
-pub mod record;
+mod record;
 pub mod report;
 mod wire;

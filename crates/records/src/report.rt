@@ -72,7 +72,7 @@ fn write_pieces(
 }
 
 // The report on an accepted net at a stage: 12 to 14 on the list, 16, or the records.
-pub fn pieces(
+fn pieces(
     stage: u8,
     limit: u32,
     nodes: &[u8],
