@@ -46,6 +46,7 @@ enum {
     ANTENNA_JUMPER_LIST = 12,      /* jumper list not in threes: 0; or an entry not after the one before: the entry, from 0 */
     ANTENNA_JUMPER_POINT = 13,     /* no such wire, a wire absent at the stage, or a position outside it: the entry */
     ANTENNA_JUMPER_BARRED = 14,    /* an obstacle holds the point: the entry */
+    ANTENNA_NO_LEGAL_SET = 15,     /* no set of jumpers makes the net safe: 0 */
     ANTENNA_BUFFER = 16            /* more bytes are needed than were lent: the bytes needed */
 };
 
@@ -103,6 +104,16 @@ antenna_answer antenna_write(const uint8_t *nodes, size_t nodes_len,
 antenna_answer antenna_report(uint32_t stage, uint32_t limit,
                               const uint8_t *file, size_t file_len,
                               const uint8_t *jumpers, size_t jumpers_len,
+                              uint8_t *out, size_t out_len);
+
+/*
+ * Writes a smallest set of jumpers after which no piece of the stage is
+ * harmful, as a jumper list. Tries refusals 1 to 11, 15, then 16.
+ * Count: the number of jumpers. No legal set has fewer; which of several
+ * smallest sets is written is left open. 1,530 bytes are always enough.
+ */
+antenna_answer antenna_repair(uint32_t stage, uint32_t limit,
+                              const uint8_t *file, size_t file_len,
                               uint8_t *out, size_t out_len);
 
 #ifdef __cplusplus

@@ -32,6 +32,14 @@ extern "C" {
         out: *mut u8,
         out_len: usize,
     ) -> Answer;
+    fn antenna_repair(
+        stage: u32,
+        limit: u32,
+        file: *const u8,
+        file_len: usize,
+        out: *mut u8,
+        out_len: usize,
+    ) -> Answer;
 }
 
 pub fn read(file: &[u8]) -> Answer {
@@ -62,6 +70,19 @@ pub fn report(stage: u32, limit: u32, file: &[u8], jumpers: &[u8], out: &mut [u8
             file.len(),
             jumpers.as_ptr(),
             jumpers.len(),
+            out.as_mut_ptr(),
+            out.len(),
+        )
+    }
+}
+
+pub fn repair(stage: u32, limit: u32, file: &[u8], out: &mut [u8]) -> Answer {
+    unsafe {
+        antenna_repair(
+            stage,
+            limit,
+            file.as_ptr(),
+            file.len(),
             out.as_mut_ptr(),
             out.len(),
         )

@@ -8,7 +8,8 @@ use antenna_tests::plain;
 use antenna_tests::random::Random;
 use antenna_tests::reference::net::Net;
 use antenna_tests::reference::report::{free_points, list_of};
-use antenna_tests::{Read, Report, Write};
+use antenna_tests::suite::repair::worst;
+use antenna_tests::{Read, Repair, Report, Write};
 use std::hint::black_box;
 use std::time::Instant;
 
@@ -105,7 +106,52 @@ fn report() {
     );
 }
 
+fn repair() {
+    let mut random = Random::new(3);
+    let files: Vec<(Vec<u8>, u32)> = (0..1_000)
+        .map(|_| {
+            let shape = Shape {
+                nodes: 256,
+                longest: random.pick(&[10, 100, 200]),
+                obstacles: random.pick(&[0, 16, 64]),
+            };
+            let net = net(&mut random, shape);
+            let total: u64 = (1..256).map(|i| net.weight(i)).sum();
+            (net.file(), (total / random.range(2, 60)) as u32)
+        })
+        .collect();
+    let repair = |call: Repair| {
+        let files = &files;
+        let mut out = vec![0; 1530];
+        move || {
+            for (file, limit) in files {
+                black_box(black_box(call)(16, *limit, file, &mut out));
+            }
+        }
+    };
+    print(
+        "repair, 1,000 nets of 256 nodes",
+        race(1, repair(library::repair), repair(plain::repair::repair)),
+    );
+    for (k, net) in worst().into_iter().enumerate() {
+        let file = net.file();
+        let total: u64 = (1..256).map(|i| net.weight(i)).sum();
+        let repair = |call: Repair| {
+            let file = &file;
+            let mut out = vec![0; 1530];
+            move || {
+                black_box(black_box(call)(1, (total / 7) as u32, file, &mut out));
+            }
+        };
+        print(
+            &format!("repair, worst kind {k}"),
+            race(1, repair(library::repair), repair(plain::repair::repair)),
+        );
+    }
+}
+
 fn main() {
     read_and_write();
     report();
+    repair();
 }
