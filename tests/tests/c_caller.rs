@@ -39,3 +39,8 @@ fn prints(name: &str) {
 fn caller() {
     prints("caller");
 }
+
+#[test]
+fn editor() {
+    prints("editor");
+}

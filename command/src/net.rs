@@ -1,0 +1,107 @@
+//! A net that the library has accepted.
+
+use crate::words::{self, Failure};
+use crate::{library, text};
+
+#[derive(Clone, Copy)]
+pub struct Node {
+    pub x: u16,
+    pub y: u16,
+    pub gate: bool,
+    pub source: bool,
+}
+
+#[derive(Clone, Copy)]
+pub struct Wire {
+    pub parent: usize,
+    pub layer: u8,
+    pub factor: u8,
+}
+
+pub struct Net {
+    pub file: Vec<u8>,
+    pub nodes: Vec<Node>,
+    /// Wire i stands at i - 1.
+    pub wires: Vec<Wire>,
+    pub obstacles: Vec<[u16; 4]>,
+}
+
+/// The sections of a net in text form, and the line of each record.
+pub struct Sections {
+    pub bytes: [Vec<u8>; 3],
+    pub lines: [Vec<usize>; 3],
+}
+
+impl Net {
+    /// A net file, or a net in text form.
+    pub fn load(name: &str, bytes: &[u8]) -> Result<Net, Failure> {
+        match std::str::from_utf8(bytes) {
+            Ok(text) if !bytes.contains(&0) => {
+                let sections = text::sections(name, text)?;
+                Net::of_file(name, Net::write(name, &sections)?)
+            }
+            _ => Net::of_file(name, bytes.to_vec()),
+        }
+    }
+
+    /// The net file of the sections; a refusal names the line.
+    fn write(name: &str, sections: &Sections) -> Result<Vec<u8>, Failure> {
+        let [nodes, wires, obstacles] = &sections.bytes;
+        let needed = library::write(nodes, wires, obstacles, &mut []);
+        let mut file = vec![0; needed.place as usize];
+        let answer = library::write(nodes, wires, obstacles, &mut file);
+        if answer.number == 0 {
+            return Ok(file);
+        }
+        let place = answer.place as usize;
+        let line = match answer.number {
+            7 => sections.lines[0].get(place),
+            8..=10 => sections.lines[1].get(place - 1),
+            11 => sections.lines[2].get(place),
+            _ => None,
+        };
+        let refusal = words::refusal(answer);
+        Err(Failure::Refused(match line {
+            Some(line) => format!("{name}:{line}: {refusal}"),
+            None => format!("{name}: {refusal}"),
+        }))
+    }
+
+    fn of_file(name: &str, file: Vec<u8>) -> Result<Net, Failure> {
+        let answer = library::read(&file);
+        if answer.number != 0 {
+            let refusal = words::refusal(answer);
+            return Err(Failure::Refused(format!("{name}: {refusal}")));
+        }
+        let number = |at: usize| u16::from_le_bytes([file[at], file[at + 1]]);
+        let wires_at = 28 + 5 * answer.count as usize;
+        let obstacles_at = wires_at + 3 * (answer.count as usize - 1);
+        let nodes = (28..wires_at)
+            .step_by(5)
+            .map(|at| Node {
+                x: number(at),
+                y: number(at + 2),
+                gate: file[at + 4] & 1 != 0,
+                source: file[at + 4] & 2 != 0,
+            })
+            .collect();
+        let wires = (wires_at..obstacles_at)
+            .step_by(3)
+            .map(|at| Wire {
+                parent: file[at] as usize,
+                layer: file[at + 1],
+                factor: file[at + 2],
+            })
+            .collect();
+        let obstacles = (obstacles_at..file.len())
+            .step_by(8)
+            .map(|at| [0, 2, 4, 6].map(|k| number(at + k)))
+            .collect();
+        Ok(Net {
+            nodes,
+            wires,
+            obstacles,
+            file,
+        })
+    }
+}
