@@ -1,19 +1,23 @@
 -- What follows from repair's promise on an accepted net: 15 exactly when no set is legal; 16 exactly when a smallest legal set needs more bytes than lent,
 -- and then its place is that number of bytes; otherwise the count is that of a smallest legal set. The three exclude each other.
 -- Assumes nothing.
-use Prim.Native.Nat.{ℕ, _*_, _<_}
-use mathlib.Core.Path.{_≡_, refl, _∙_, ap}
+use Prim.Native.Nat.{ℕ, suc, _*_, _≤_, _<_}
+use mathlib.Core.Path.{_≡_, refl, sym, _∙_, ap}
 use mathlib.Core.Logic.{_↔_}
 use mathlib.Core.List.{List}
 use lib.ListN.{length}
 use native.Mathlib.Omega.{arith}
+use Rattle.laws.specs.Sums.{by, no-both}
 use Rattle.net.specs.declared.Answer.{Answer}
+use Rattle.net.specs.declared.Refusal.{Refusal}
 use Rattle.net.specs.Layout.{entryBytes}
 use Rattle.net.specs.Stage.{Stage}
-use Rattle.net.specs.Refusal.{answer, none, refusal}
+use Rattle.net.specs.Refusal.{answer, none, refusal, met}
+use Rattle.net.specs.Call.{netAt, callRefusal}
+use Rattle.net.specs.First.{unmet-number}
 use Rattle.pieces.specs.Legal.{size, listed, Smallest, NoneLegal}
 use Rattle.pieces.specs.Size.{listed-size}
-use Rattle.jumpers.specs.Promise.{Judged, no-legal-set, too-short, done}
+use Rattle.jumpers.specs.Promise.{Judged, no-legal-set, too-short, done, Repaired}
 
 -- the count of a smallest list is the number of its points
 pub smallest-size : {s : Stage} {limit : ℕ} {list : List ℕ} {n : ℕ} → Smallest s limit list n → size s (listed list n) ≡ n
@@ -79,3 +83,24 @@ module _ {s : Stage} {limit : ℕ} {out after : List ℕ} {r : Answer} where
       apart : r .number ≡ 16 → r .number ≡ 0 → ⊥
       apart a b = omega arith
   counted (done l x w le e k) p list n m = let q : r .count ≡ x = unfold answer in ap (λ (a : Answer). a .count) e in q ∙ same-count w m
+
+-- done: the list lies in the lent buffer
+pub list-room : {stage limit : ℕ} {file out after : List ℕ} {r : Answer} → Repaired stage limit file out after r → r .number ≡ 0 → entryBytes * r .count ≤ length out
+list-room {stage} {limit} {file} {out} {after} {r} p zero =
+    by (met (callRefusal stage file))
+    (λ m. absurd (no-both m (unmet-number (callRefusal stage file) (sym (number-of (callRefusal stage file) 0 (p .refused m .0)) ∙ zero))))
+    (λ u. at (p .judged u))
+  where
+    number-of : (q : Refusal) (n : ℕ) → r ≡ answer q n → r .number ≡ q .number
+    number-of q n e = unfold answer in ap (λ (a : Answer). a .number) e
+
+    count-of : (n : ℕ) → r ≡ answer none n → r .count ≡ n
+    count-of n e = unfold answer in ap (λ (a : Answer). a .count) e
+
+    apart : (number place : ℕ) → r ≡ answer (refusal (suc number) place) 0 → ⊥
+    apart number place e = let a = number-of (refusal (suc number) place) 0 e in omega arith
+
+    at : Judged (netAt file stage) limit out after r → entryBytes * r .count ≤ length out
+    at (no-legal-set f e k) = absurd (apart 14 0 e)
+    at (too-short list n m lt e k) = absurd (apart 15 (entryBytes * n) e)
+    at (done list n m le e k) = let c = count-of n e in omega arith

@@ -10,60 +10,42 @@ use Rattle.records.specs.Reporting.{call-unmet, call-stage, call-net}
 use borrow.Author.Needs.{needs}
 use Rattle.antenna.proofs.antenna_repair.Statement.{statement}
 use Rattle.antenna.proofs.antenna_repair.Tie as tie
-use Rattle.antenna.proofs.antenna_repair.Reads as reads
-use Rattle.antenna.proofs.antenna_repair.Lts as lts
-use Rattle.jumpers.proofs.repair.judge.Reads as judge-reads
-use Rattle.net.proofs.answers.answered.Reads as answered-reads
-use Rattle.net.proofs.sections.nodes.Reads as nodes-reads
-use Rattle.net.proofs.sections.obstacles.Reads as obstacles-reads
-use Rattle.net.proofs.sections.wires.Reads as wires-reads
-use Rattle.records.proofs.report.call_refusal.Reads as call-refusal-reads
 
--- src/lib.rt:47:9
 call-refusal-requires : tie.Need-call-refusal-requires
 call-refusal-requires c κs = search needs
 
--- src/lib.rt:49:9
 answered-requires : tie.Need-answered-requires
 answered-requires c κs = search needs
 
--- src/lib.rt:49:9
 returns : tie.Need-returns
 returns c =
     let e = c .before .before .before .call-refusal .ensures in
     let m = rw e at (met-number (c .before .before .before .call-refusal .result) (c .before .if1 .taken)) in
     record { refused = λ h. (c .answered .ensures ∙ ap (λ (x : Refusal). answer x 0) e, refl); judged = λ h. absurd (no-both m h) }
 
--- src/lib.rt:52:9
 nodes-requires : tie.Need-nodes-requires
 nodes-requires c κs = search needs
 
--- src/lib.rt:53:9
 wires-requires : tie.Need-wires-requires
 wires-requires c κs = search needs
 
--- src/lib.rt:54:9
 obstacles-requires : tie.Need-obstacles-requires
 obstacles-requires c κs = search needs
 
--- src/lib.rt:55:9
 cast-judge : tie.Need-cast-judge
 cast-judge c =
     let a = c .before .before .before .before .before .before .before .before .args in
     record { fits = omega (arith, call-stage (a .stage) (a .file .now) (rw (c .before .before .before .before .before .call-refusal .ensures) at (c .before .before .before .if1 .left))) }
 
--- src/lib.rt:51:5
 judge-requires : tie.Need-judge-requires
 judge-requires c κs =
     let a = c .before .before .before .before .before .before .before .before .before .args in
     rw (c .before .before .before .nodes .ensures, c .before .before .wires .ensures, c .before .obstacles .ensures)
     (call-net (a .stage) (a .file .now) (rw (c .before .before .before .before .before .before .call-refusal .ensures) at (c .before .before .before .before .if1 .left)))
 
--- src/lib.rt:43:1
 same-length : tie.Need-same-length
 same-length c = search needs
 
--- src/lib.rt:43:1
 returns-2 : tie.Need-returns-2
 returns-2 c =
     let a = c .before .before .before .before .before .before .before .before .before .before .before .before .args in

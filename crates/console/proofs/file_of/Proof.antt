@@ -5,38 +5,28 @@ use lib.Seq.{drop-length, take-nil, take-all}
 use borrow.Author.Needs.{needs}
 use Rattle.console.proofs.file_of.Statement.{statement}
 use Rattle.console.proofs.file_of.Tie as tie
-use Rattle.console.proofs.file_of.Reads as reads
-use Rattle.console.proofs.file_of.Lts as lts
 
--- src/lib.rt:38:16
 sub-result : tie.Need-sub-result
 sub-result c = search needs
 
--- src/lib.rt:38:16
 part-result-start : tie.Need-part-result-start
 part-result-start c = search needs
 
--- src/lib.rt:38:16
 part-result-end : tie.Need-part-result-end
 part-result-end c = search needs
 
--- src/lib.rt:38:9
 returns : tie.Need-returns
 returns c = let l = c .before .before .args .input .now in let h : length l ≤ 5 = omega arith in rw (drop-length l, drop-of-length-le l h, take-nil)
 
--- src/lib.rt:40:5
 sub-result-2 : tie.Need-sub-result-2
 sub-result-2 c = search needs
 
--- src/lib.rt:40:5
 part-result-start-2 : tie.Need-part-result-start-2
 part-result-start-2 c = search needs
 
--- src/lib.rt:40:5
 part-result-end-2 : tie.Need-part-result-end-2
 part-result-end-2 c = search needs
 
--- src/lib.rt:34:1
 returns-2 : tie.Need-returns-2
 returns-2 c = let l = c .before .before .args .input .now in take-all (length l - 5) (drop 5 l) (rw length-drop (omega arith))
 

@@ -5,19 +5,13 @@ use lib.ListN.{length}
 use borrow.Author.Needs.{needs}
 use Rattle.console.proofs.limit_of.Statement.{statement}
 use Rattle.console.proofs.limit_of.Tie as tie
-use Rattle.console.proofs.limit_of.Reads as reads
-use Rattle.console.proofs.limit_of.Lts as lts
-use Rattle.net.proofs.records.u32_at.Reads as u32-at-reads
 
--- src/lib.rt:29:9
 returns : tie.Need-returns
 returns c = let l = c .before .before .args .input .now in let h : length l < 5 = omega arith in rw (lt-ltb (length l) 5 h)
 
--- src/lib.rt:31:5
 u32-at-requires : tie.Need-u32-at-requires
 u32-at-requires c κs = search needs
 
--- src/lib.rt:25:1
 returns-2 : tie.Need-returns-2
 returns-2 c = let l = c .before .before .before .args .input .now in let h : 5 ≤ length l = omega arith in rw (le-ltb (length l) 5 h) (c .u32-at .ensures)
 

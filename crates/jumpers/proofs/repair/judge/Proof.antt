@@ -19,16 +19,7 @@ use Rattle.jumpers.specs.RepairLaws.{Planned, count-few, judged-short, j
 use borrow.Author.Needs.{needs}
 use Rattle.jumpers.proofs.repair.judge.Statement.{statement}
 use Rattle.jumpers.proofs.repair.judge.Tie as tie
-use Rattle.jumpers.proofs.repair.judge.Reads as reads
-use Rattle.jumpers.proofs.repair.judge.Lts as lts
-use Rattle.jumpers.proofs.list.write_list.Reads as write-list-reads
-use Rattle.jumpers.proofs.repair.plan.Reads as plan-reads
-use Rattle.net.proofs.answers.answered.Reads as answered-reads
-use Rattle.net.proofs.answers.none.Reads as none-reads
-use Rattle.net.proofs.answers.refused.Reads as refused-reads
-use Rattle.net.proofs.records.node_count.Reads as node-count-reads
 
--- src/repair.rt:190:9
 abbrev found : tie.Else1 → tie.After-plan
 found e = e .before .before .before .before
 
@@ -63,67 +54,52 @@ points-few e =
 node-count-requires : tie.Need-node-count-requires
 node-count-requires c κs = search needs
 
--- src/repair.rt:194:68
 slice-aggregate-plan : tie.Need-slice-aggregate-plan
 slice-aggregate-plan c = search needs
 
--- src/repair.rt:194:77
 slice-aggregate-plan-2 : tie.Need-slice-aggregate-plan-2
 slice-aggregate-plan-2 c = search needs
 
--- src/repair.rt:194:88
 slice-aggregate-plan-3 : tie.Need-slice-aggregate-plan-3
 slice-aggregate-plan-3 c = search needs
 
--- src/repair.rt:194:9
 plan-requires : tie.Need-plan-requires
 plan-requires c κs = search needs
 
--- src/repair.rt:196:34
 refused-requires : tie.Need-refused-requires
 refused-requires c κs = search needs
 
--- src/repair.rt:196:9
 answered-requires : tie.Need-answered-requires
 answered-requires c κs = search needs
 
--- src/repair.rt:196:9
 returns : tie.Need-returns
 returns c =
     let d : tie.After-plan = c .before .before .before .before .before .before in
     no-legal-set (d .plan .ensures .no-set (c .before .before .if1 .taken)) (c .answered .ensures ∙ ap (λ (x : Refusal). answer x 0) (c .before .refused .ensures)) refl
 
--- src/repair.rt:199:18
 mul-needed : tie.Need-mul-needed
 mul-needed c = let few = points-few c in record { fits = omega arith }
 
--- src/repair.rt:201:34
 refused-requires-2 : tie.Need-refused-requires-2
 refused-requires-2 c κs = search needs
 
--- src/repair.rt:201:9
 answered-requires-2 : tie.Need-answered-requires-2
 answered-requires-2 c κs = search needs
 
--- src/repair.rt:201:9
 returns-2 : tie.Need-returns-2
 returns-2 c =
     let e : tie.Else1 = c .before .before .before in
     judged-short (planned e) (omega arith) (c .answered2 .ensures ∙ ap (λ (x : Refusal). answer x 0) (c .before .refused2 .ensures))
 
--- src/repair.rt:203:19
 slice-aggregate-write-list : tie.Need-slice-aggregate-write-list
 slice-aggregate-write-list c = search needs
 
--- src/repair.rt:203:24
 slice-aggregate-write-list-2 : tie.Need-slice-aggregate-write-list-2
 slice-aggregate-write-list-2 c = search needs
 
--- src/repair.rt:203:31
 slice-aggregate-write-list-3 : tie.Need-slice-aggregate-write-list-3
 slice-aggregate-write-list-3 c = search needs
 
--- src/repair.rt:203:5
 write-list-requires : tie.Need-write-list-requires
 write-list-requires c κs =
     let e : tie.Else1 = c .before .before .before .before .before in
@@ -140,19 +116,15 @@ write-list-requires c κs =
       ),
     )
 
--- src/repair.rt:204:23
 none-requires : tie.Need-none-requires
 none-requires c κs = search needs
 
--- src/repair.rt:204:5
 answered-requires-3 : tie.Need-answered-requires-3
 answered-requires-3 c κs = search needs
 
--- src/repair.rt:179:1
 same-length : tie.Need-same-length
 same-length c = search needs
 
--- src/repair.rt:179:1
 returns-3 : tie.Need-returns-3
 returns-3 c =
     let e : tie.Else1 = c .before .before .before .before .before .before .before .before .before .before in

@@ -2,101 +2,75 @@ use Rattle.jumpers.specs.RepairLaws.{all-false}
 use borrow.Author.Needs.{needs}
 use Rattle.jumpers.proofs.repair.plan.Statement.{statement}
 use Rattle.jumpers.proofs.repair.plan.Tie as tie
-use Rattle.jumpers.proofs.repair.plan.Reads as reads
-use Rattle.jumpers.proofs.repair.plan.Lts as lts
-use Rattle.jumpers.proofs.repair.run.Reads as run-reads
 
--- src/repair.rt:95:48
 slice-aggregate-run : tie.Need-slice-aggregate-run
 slice-aggregate-run c = search needs
 
--- src/repair.rt:95:61
 slice-aggregate-run-2 : tie.Need-slice-aggregate-run-2
 slice-aggregate-run-2 c = search needs
 
--- src/repair.rt:95:72
 slice-aggregate-run-3 : tie.Need-slice-aggregate-run-3
 slice-aggregate-run-3 c = search needs
 
--- src/repair.rt:95:83
 slice-aggregate-run-4 : tie.Need-slice-aggregate-run-4
 slice-aggregate-run-4 c = search needs
 
--- src/repair.rt:95:99
 slice-aggregate-run-5 : tie.Need-slice-aggregate-run-5
 slice-aggregate-run-5 c = search needs
 
--- src/repair.rt:95:113
 slice-aggregate-run-6 : tie.Need-slice-aggregate-run-6
 slice-aggregate-run-6 c = search needs
 
--- src/repair.rt:95:125
 slice-aggregate-run-7 : tie.Need-slice-aggregate-run-7
 slice-aggregate-run-7 c = search needs
 
--- src/repair.rt:95:137
 slice-aggregate-run-8 : tie.Need-slice-aggregate-run-8
 slice-aggregate-run-8 c = search needs
 
--- src/repair.rt:95:147
 slice-aggregate-run-9 : tie.Need-slice-aggregate-run-9
 slice-aggregate-run-9 c = search needs
 
--- src/repair.rt:95:160
 slice-aggregate-run-10 : tie.Need-slice-aggregate-run-10
 slice-aggregate-run-10 c = search needs
 
--- src/repair.rt:95:170
 slice-aggregate-run-11 : tie.Need-slice-aggregate-run-11
 slice-aggregate-run-11 c = search needs
 
--- src/repair.rt:95:186
 slice-aggregate-run-12 : tie.Need-slice-aggregate-run-12
 slice-aggregate-run-12 c = search needs
 
--- src/repair.rt:95:198
 slice-aggregate-run-13 : tie.Need-slice-aggregate-run-13
 slice-aggregate-run-13 c = search needs
 
--- src/repair.rt:95:216
 slice-aggregate-run-14 : tie.Need-slice-aggregate-run-14
 slice-aggregate-run-14 c = search needs
 
--- src/repair.rt:95:228
 slice-aggregate-run-15 : tie.Need-slice-aggregate-run-15
 slice-aggregate-run-15 c = search needs
 
--- src/repair.rt:95:243
 slice-aggregate-run-16 : tie.Need-slice-aggregate-run-16
 slice-aggregate-run-16 c = search needs
 
--- src/repair.rt:95:259
 slice-aggregate-run-17 : tie.Need-slice-aggregate-run-17
 slice-aggregate-run-17 c = search needs
 
--- src/repair.rt:95:279
 slice-aggregate-run-18 : tie.Need-slice-aggregate-run-18
 slice-aggregate-run-18 c = search needs
 
--- src/repair.rt:95:5
 run-requires : tie.Need-run-requires
 run-requires c κs =
     let s : tie.Start = c .before .before .before .before .before .before .before .before .before .before .before .before .before .before .before .before .before .before .before .before .before .before .before .before .before .before .before in
     (s .pre .0, ((search needs, s .pre .1 .0, search needs, search needs, search needs, search needs, search needs, search needs, search needs, search needs, search needs, search needs, search needs, search needs, search needs, search needs, search needs, search needs, s .pre .1 .1, search needs, s .pre .1 .2), λ j. all-false 256 j))
 
--- src/repair.rt:63:1
 same-length : tie.Need-same-length
 same-length c = let d : tie.After-run = c .before .before .before .before .before .before .before .before .before .before .before .before .before .before .before .before .before .before .before .before .before .before .before .before in d .run .kept .1 .1 .1 .1 .1 .1 .0
 
--- src/repair.rt:63:1
 same-length-2 : tie.Need-same-length-2
 same-length-2 c = let d : tie.After-run = c .before .before .before .before .before .before .before .before .before .before .before .before .before .before .before .before .before .before .before .before .before .before .before .before in d .run .kept .1 .1 .1 .1 .1 .1 .1 .1 .1 .1 .1 .1 .1 .1 .1 .1 .1 .1 .1 .1 .1 .1 .1 .0
 
--- src/repair.rt:63:1
 same-length-3 : tie.Need-same-length-3
 same-length-3 c = let d : tie.After-run = c .before .before .before .before .before .before .before .before .before .before .before .before .before .before .before .before .before .before .before .before .before .before .before .before in d .run .kept .1 .1 .1 .1 .1 .1 .1 .1 .1 .1 .1 .1 .1 .1 .1 .1 .1 .1 .1 .1 .1 .1 .1 .1 .1 .0
 
--- src/repair.rt:63:1
 returns : tie.Need-returns
 returns c = let d : tie.After-run = c .before .before .before .before .before .before .before .before .before .before .before .before .before .before .before .before .before .before .before .before .before .before .before .before in d .run .ensures
 
