@@ -22,7 +22,7 @@ fn hangs(lo: &[u64], host: &[usize], r: usize, j: usize) -> bool
     requires { ⌜ (j < length (now lo)) × (j < length (now host)) ⌝ }
     ensures { λ b. ⌜ b ≡ hung (now (lo .entry)) (now (host .entry)) r j ⌝ }
 {
-    0 < lo[j] && host[j] == r
+    host[j] == r && 0 < lo[j]
 }
 
 // The sum of a value over the branches of cluster r.
