@@ -2,11 +2,15 @@
 # make test     prove every crate, build the library, run the Rust tests; the last line is 'N passed, M failed'
 # make bench    the proved library against plain Rust, as ratios
 # make fuzz     all four calls against the independent implementation, for SECONDS (3600)
+# make install  library, header, pkg-config file, programs and man pages under PREFIX
 
+PREFIX ?= /usr/local
 SECONDS ?= 3600
 CARGO = cargo build --release --offline --locked --quiet --manifest-path
+LIBRARY = target/staticlib/libantenna.a
+COMMAND = command/target/release/antenna
 
-.PHONY: test demo bench fuzz build tools
+.PHONY: test demo bench fuzz install build tools
 
 test: tools
 	@tests/run
@@ -25,8 +29,21 @@ fuzz: build
 build: tools
 	@mkdir -p target
 	@echo "proving and building; the first time takes some minutes"
-	@rt staticlib antenna > target/build.log 2>&1 || { tail -n 30 target/build.log; exit 1; }
+	@rt check report repair > target/build.log 2>&1 && rt staticlib antenna >> target/build.log 2>&1 || { tail -n 30 target/build.log; exit 1; }
 	@$(CARGO) command/Cargo.toml
+
+install: build
+	@install -d $(DESTDIR)$(PREFIX)/include $(DESTDIR)$(PREFIX)/lib/pkgconfig $(DESTDIR)$(PREFIX)/bin
+	@install -d $(DESTDIR)$(PREFIX)/share/man/man1 $(DESTDIR)$(PREFIX)/share/man/man3
+	@install -m 644 include/antenna.h $(DESTDIR)$(PREFIX)/include
+	@install -m 644 $(LIBRARY) $(DESTDIR)$(PREFIX)/lib
+	@sed 's|@PREFIX@|$(PREFIX)|' include/antenna.pc > $(DESTDIR)$(PREFIX)/lib/pkgconfig/antenna.pc
+	@install $(COMMAND) $(DESTDIR)$(PREFIX)/bin
+	@install target/bin/report $(DESTDIR)$(PREFIX)/bin/antenna-report
+	@install target/bin/repair $(DESTDIR)$(PREFIX)/bin/antenna-repair
+	@install -m 644 docs/man/*.1 $(DESTDIR)$(PREFIX)/share/man/man1
+	@install -m 644 docs/man/*.3 $(DESTDIR)$(PREFIX)/share/man/man3
+	@echo "installed under $(DESTDIR)$(PREFIX)"
 
 tools:
 	@tests/tools

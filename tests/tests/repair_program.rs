@@ -1,0 +1,31 @@
+//! The repair program, run whole.
+
+use antenna_tests::suite::program::{check_repair, input, many_inputs, run};
+use antenna_tests::suite::repair::net_a;
+use std::path::Path;
+
+fn program() -> &'static Path {
+    Path::new(concat!(env!("CARGO_MANIFEST_DIR"), "/../target/bin/repair"))
+}
+
+#[test]
+fn net_a_prints_whole() {
+    let file = net_a(&[]).file();
+    for (limit, lines) in [
+        (13, "jumpers 0\n"),
+        (1, "jumpers 2\n1 1\n1 12\n"),
+        (0, "refused 15 0\n"),
+    ] {
+        assert_eq!(run(program(), &input(1, limit, &file), &[]), lines);
+    }
+    assert_eq!(run(program(), &input(0, 1, &file), &[]), "refused 1 0\n");
+    assert_eq!(run(program(), &[], &[]), "refused 1 0\n");
+}
+
+#[test]
+fn many() {
+    many_inputs(
+        |input, stretches| check_repair(program(), input, stretches),
+        1_500,
+    );
+}
