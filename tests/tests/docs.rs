@@ -2,7 +2,7 @@
 
 use std::path::Path;
 
-/// Words that look like paths of the repository: in backquotes, or the target of a link.
+/// Words that look like paths of the repository: in backquotes, or the target of a link. Patterns and what is built are left out.
 fn paths(text: &str) -> Vec<String> {
     let mut found = Vec::new();
     for quoted in text.split('`').skip(1).step_by(2) {
@@ -16,7 +16,8 @@ fn paths(text: &str) -> Vec<String> {
             "command/",
             "bench/",
         ];
-        if known.iter().any(|start| word.starts_with(start)) {
+        let pattern = word.contains("NAME") || word.contains("/target/");
+        if known.iter().any(|start| word.starts_with(start)) && !pattern {
             found.push(word.to_string());
         }
     }
