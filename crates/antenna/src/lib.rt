@@ -1,9 +1,9 @@
 // The public calls of the desk as C exports. Each takes any input and carries the whole promise of the call behind it.
-use jumpers::repair::judge;
 use net::Answer;
 use net::answers::answered;
 use net::sections;
 use records::report::call_refusal;
+use repairs::judge;
 ghost use mathlib.Core.Path.{_≡_};
 ghost use lib.ListN.{length};
 ghost use Rattle.jumpers.specs.Promise.{Repaired};

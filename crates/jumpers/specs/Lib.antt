@@ -1,5 +1,4 @@
 pub mod Promise
-pub mod RepairLaws
 pub mod Arrays
 pub mod Choose
 pub mod ListingSmallest

@@ -1,8 +1,7 @@
 // The code of repair: cuttable points, clusters, the pass down, the pass up, the jumper list.
-mod choose;
+pub mod choose;
 mod climb;
 mod close;
-mod count;
-mod list;
-pub mod repair;
-mod scan;
+pub mod count;
+pub mod list;
+pub mod scan;

@@ -1,9 +1,9 @@
 // Repair on an accepted net: the passes in order over work arrays, then the list.
-use crate::choose::choose;
-use crate::count::Count;
-use crate::count::count_pass;
-use crate::list::write_list;
-use crate::scan::scan;
+use jumpers::choose::choose;
+use jumpers::count::Count;
+use jumpers::count::count_pass;
+use jumpers::list::write_list;
+use jumpers::scan::scan;
 use net::Answer;
 use net::answers;
 use net::layout::ENTRY_BYTES;
@@ -16,8 +16,8 @@ ghost use lib.ListN.{length, getD};
 ghost use Rattle.net.specs.Layout.{mostNodes};
 ghost use Rattle.net.specs.Stage.{stageOf};
 ghost use Rattle.net.specs.Refusal.{none, netRefusal};
 ghost use Rattle.jumpers.specs.Promise.{Judged};
-ghost use Rattle.jumpers.specs.RepairLaws.{Plans};
+ghost use Rattle.repairs.specs.RepairLaws.{Plans};
 
 // The passes in order over lent work arrays: how many points are needed, with hi, near and high for the list of them; or that no set is legal.
 fn run(

@@ -1,4 +1,4 @@
--- `jumpers::repair::judge` meets its contract: what the passes plan is what the list then holds.
+-- `repairs::judge` meets its contract: what the passes plan is what the list then holds.
 -- Assumes nothing.
 use Prim.Native.Nat.{ℕ, _*_, _≤_, _<_}
 use mathlib.Core.Path.{_≡_, refl, sym, _∙_, ap, subst}
@@ -13,12 +13,12 @@ use Rattle.laws.specs.Lists.{over}
 use Rattle.net.specs.Stage.{stageOf}
 use Rattle.net.specs.Refusal.{answer}
 use Rattle.net.specs.Accepted.{NetRight, net-right}
 use Rattle.jumpers.specs.Promise.{no-legal-set}
 use Rattle.jumpers.specs.Listing.{listOf, countOf}
-use Rattle.jumpers.specs.RepairLaws.{Planned, count-few, judged-short, judged-done}
+use Rattle.repairs.specs.RepairLaws.{Planned, count-few, judged-short, judged-done}
 use borrow.Author.Needs.{needs}
-use Rattle.jumpers.proofs.repair.judge.Statement.{statement}
-use Rattle.jumpers.proofs.repair.judge.Tie as tie
+use Rattle.repairs.proofs.judge.Statement.{statement}
+use Rattle.repairs.proofs.judge.Tie as tie
 
 abbrev found : tie.Else1 → tie.After-plan
 found e = e .before .before .before .before

@@ -1,4 +1,4 @@
--- `jumpers::repair::run` meets its contract: each pass has what it requires from those before, and together they give a plan or show that there is none.
+-- `repairs::run` meets its contract: each pass has what it requires from those before, and together they give a plan or show that there is none.
 -- Assumes nothing.
 use Prim.Native.Nat.{ℕ, _≤_, _<_, _^_}
 use mathlib.Core.Path.{_≡_, sym, subst}
@@ -13,13 +13,13 @@ use Rattle.net.specs.Layout.{mostNodes}
 use Rattle.net.specs.Accepted.{NetRight, net-right}
 use Rattle.net.specs.Stage.{stageOf}
 use Rattle.cuts.specs.Passes.{Counted}
 use Rattle.jumpers.specs.Arrays.{downOf}
 use Rattle.jumpers.specs.Count.{workClusters, Ready, Hopeless, rootSum}
 use Rattle.jumpers.specs.Choose.{Choosable}
 use Rattle.jumpers.specs.ScanFits.{wired-of}
-use Rattle.jumpers.specs.RepairLaws.{ready-of, none-of, choosable-of, planned}
-use Rattle.jumpers.proofs.repair.run.Statement.{statement}
-use Rattle.jumpers.proofs.repair.run.Tie as tie
+use Rattle.repairs.specs.RepairLaws.{ready-of, none-of, choosable-of, planned}
+use Rattle.repairs.proofs.run.Statement.{statement}
+use Rattle.repairs.proofs.run.Tie as tie
 
 -- ---- the places after each pass
 abbrev start : tie.After-scan → tie.Start

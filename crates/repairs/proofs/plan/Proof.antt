@@ -1,7 +1,7 @@
-use Rattle.jumpers.specs.RepairLaws.{all-false}
+use Rattle.repairs.specs.RepairLaws.{all-false}
 use borrow.Author.Needs.{needs}
-use Rattle.jumpers.proofs.repair.plan.Statement.{statement}
-use Rattle.jumpers.proofs.repair.plan.Tie as tie
+use Rattle.repairs.proofs.plan.Statement.{statement}
+use Rattle.repairs.proofs.plan.Tie as tie
 
 slice-aggregate-run : tie.Need-slice-aggregate-run
 slice-aggregate-run c = search needs
