@@ -1,7 +1,7 @@
 //! Smallest jumper sets by trying every set of points, smaller sets first.
 
 use super::net::Net;
-use super::report::{free_points, Elements, Groups, Point};
+use super::report::{free_points, joined, Elements, Point};
 
 /// A stage with everything joined that no jumper can part, so that many sets can be judged.
 pub struct Judge {
@@ -17,24 +17,9 @@ impl Judge {
     pub fn new(net: &Net, stage: u32) -> Judge {
         let elements = Elements::new(net, stage);
         let points = free_points(net, stage);
-        let mut groups = Groups::new(elements.count);
-        for i in 1..elements.nodes {
-            if !net.present(stage, i) {
-                continue;
-            }
-            let (length, parent) = (net.length(i), net.parent(i));
-            if length == 0 {
-                groups.join(i, parent);
-                continue;
-            }
-            groups.join(i, elements.step(i, 1));
-            groups.join(parent, elements.step(i, length));
-            for t in 1..length {
-                if points.binary_search(&(i, t)).is_err() {
-                    groups.join(elements.step(i, t), elements.step(i, t + 1));
-                }
-            }
-        }
+        let mut groups = joined(net, stage, &elements, |point| {
+            points.binary_search(&point).is_ok()
+        });
         let mut part_of = vec![usize::MAX; elements.count];
         let mut parts = 0;
         for e in 0..elements.count {

@@ -99,14 +99,9 @@ impl Elements {
     }
 }
 
-/// Every piece of the stage with jumpers at the points, in the order of their names.
-pub fn pieces(net: &Net, stage: u32, jumpers: &[Point]) -> Vec<Piece> {
-    let elements = Elements::new(net, stage);
+/// Nodes and steps of the stage joined where they touch: along a wire but where it is cut, at nodes, and by vias.
+pub fn joined(net: &Net, stage: u32, elements: &Elements, cut: impl Fn(Point) -> bool) -> Groups {
     let mut groups = Groups::new(elements.count);
-    let mut at = vec![false; elements.count];
-    for &(i, t) in jumpers {
-        at[elements.step(i, t)] = true;
-    }
     for i in 1..elements.nodes {
         if !net.present(stage, i) {
             continue;
@@ -119,11 +114,22 @@ pub fn pieces(net: &Net, stage: u32, jumpers: &[Point]) -> Vec<Piece> {
         groups.join(i, elements.step(i, 1));
         groups.join(parent, elements.step(i, length));
         for t in 1..length {
-            if !at[elements.step(i, t)] {
+            if !cut((i, t)) {
                 groups.join(elements.step(i, t), elements.step(i, t + 1));
             }
         }
     }
+    groups
+}
+
+/// Every piece of the stage with jumpers at the points, in the order of their names.
+pub fn pieces(net: &Net, stage: u32, jumpers: &[Point]) -> Vec<Piece> {
+    let elements = Elements::new(net, stage);
+    let mut at = vec![false; elements.count];
+    for &(i, t) in jumpers {
+        at[elements.step(i, t)] = true;
+    }
+    let mut groups = joined(net, stage, &elements, |(i, t)| at[elements.step(i, t)]);
     let mut found: Vec<Option<Piece>> = vec![None; elements.count];
     let empty = Piece {
         name: (0, 0),
