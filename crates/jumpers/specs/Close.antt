@@ -15,6 +15,10 @@ use Rattle.cuts.specs.Passes.{Down, Closed}
 abbrev pub hung : List ℕ → List ℕ → ℕ → ℕ → Bool
 hung lo host r j = ltb 0 (getD lo j 0) && eqb (getD host j 0) r
 
+-- the branches of cluster r have higher numbers than it
+abbrev pub HungAbove : List ℕ → List ℕ → ℕ → Type 0
+HungAbove lo host r = (j : ℕ) → j ≤ r → hung lo host r j ≡ false
+
 -- a value's sum over the branches of cluster r
 unfoldable pub branchSum : ℕ → List ℕ → List ℕ → ℕ → List ℕ → ℕ
 branchSum n lo host r values = sum n (λ j. χ (hung lo host r j) (getD values j 0))

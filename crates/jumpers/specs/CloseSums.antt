@@ -10,8 +10,8 @@ use lib.ListN.{getD}
 use lib.Dec.{ltb, eqb}
 use borrow.Author.Tests.{ltb-true, ltb-false, eqb-true, eqb-false}
 use Rattle.laws.specs.Sum.{χ, sum}
-use Rattle.laws.specs.Sums.{by, and-left, and-right, χ-yes, χ-no, χ-≤, sum-bound, sum-next, sum-next-≤}
-use Rattle.jumpers.specs.Close.{hung, branchSum, flaggedCount, flaggedSum, clearCount, heavierThan, Heaviest}
+use Rattle.laws.specs.Sums.{by, no-both, and-left, and-right, χ-yes, χ-no, χ-≤, sum-zero, sum-bound, sum-next, sum-next-≤}
+use Rattle.jumpers.specs.Close.{hung, HungAbove, branchSum, flaggedCount, flaggedSum, clearCount, heavierThan, Heaviest}
 
 -- ---- a test and two of its parts
 pub χ-both : {h p : Bool} (x : ℕ) → h ≡ true → p ≡ true → χ (h && p) x ≡ x
@@ -99,15 +99,20 @@ module _ (lo host values : List ℕ) (flags : List Bool) (r j : ℕ) where
       let b = χ-both (getD values j 0) h q in
       omega arith
 
-pub branch-none : (lo host values : List ℕ) (r : ℕ) → branchSum 0 lo host r values ≡ 0
-unfolding branchSum sum
-branch-none lo host values r = refl
+-- ---- no branch as far as the cluster's own number
+pub branch-none : (lo host values : List ℕ) (r : ℕ) → HungAbove lo host r → branchSum (r + 1) lo host r values ≡ 0
+unfolding branchSum
+branch-none lo host values r above = sum-zero (r + 1) (λ j p. χ-no (getD values j 0) (above j (omega arith)))
 
 pub option-none :
     (lo host values : List ℕ) (flags : List Bool) (r : ℕ) →
-    (clearCount 0 lo host r flags ≡ 0) × (flaggedSum 0 lo host r flags values ≡ 0)
-unfolding clearCount flaggedSum sum
-option-none lo host values flags r = (refl, refl)
+    HungAbove lo host r →
+    (clearCount (r + 1) lo host r flags ≡ 0) × (flaggedSum (r + 1) lo host r flags values ≡ 0)
+unfolding clearCount flaggedSum
+option-none lo host values flags r above = (
+  sum-zero (r + 1) (λ j p. χ-first (not (getD flags j false)) 1 (above j (omega arith))),
+  sum-zero (r + 1) (λ j p. χ-first (getD flags j false) (getD values j 0) (above j (omega arith))),
+)
 
 -- no more branches than nodes
 pub flagged-few : (n : ℕ) (lo host : List ℕ) (r : ℕ) (flags : List Bool) → flaggedCount n lo host r flags ≤ n
@@ -118,8 +123,8 @@ flagged-few n lo host r flags =
 
 -- ---- the heaviest branch that is not cut
 module _ (lo host lightest : List ℕ) (cut : List Bool) (r : ℕ) where
-  pub heaviest-none : (at : ℕ) → Heaviest 0 lo host lightest cut r at 0
-  heaviest-none at = record { most = λ j p h k. omega arith; one = inl refl }
+  pub heaviest-none : (at : ℕ) → HungAbove lo host r → Heaviest (r + 1) lo host lightest cut r at 0
+  heaviest-none at above = record { most = λ j p h k. absurd (no-both h (above j (omega arith))); one = inl refl }
 
   pub heaviest-yes :
       (j at weight : ℕ) →

@@ -9,11 +9,11 @@ use lib.ListN.{length, getD, set}
 use lib.Seq.{getD-set-same, getD-set-other}
 use lib.Dec.{eqb, ltb}
 use borrow.Author.Tests.{eqb-true, ne-eqb, ltb-true, ltb-false, lt-ltb}
-use Rattle.laws.specs.Sums.{and-left, and-right}
+use Rattle.laws.specs.Sums.{and-left, and-right, not-true-false}
 use Rattle.cuts.specs.Passes.{Down, Counted}
 use Rattle.cuts.specs.Bounds.{sums-bounded}
 use Rattle.jumpers.specs.Arrays.{downOf}
-use Rattle.jumpers.specs.Close.{hung, branchSum, flaggedSum, Room, Closes, branchesOf, closingOf}
+use Rattle.jumpers.specs.Close.{hung, HungAbove, branchSum, flaggedSum, Room, Closes, branchesOf, closingOf}
 use Rattle.jumpers.specs.Climb.{Branch, wireOf, climbingOf}
 use Rattle.jumpers.specs.Count.{workClusters, Ready, Unmarked, ClimbsAt}
 use Rattle.jumpers.specs.CountFrame.{SameCluster, SameBranch, closed-same, climbed-same}
@@ -35,12 +35,15 @@ module _ (n : ℕ) (ns ws os lo hi host fixed gates : List ℕ) (ready : Ready n
         in-order = s .lo-least j (getD hi j 0) p y (s .hi-free j p y);
       }
 
-  hung-above : (r j : ℕ) → j < n → hung lo host r j ≡ true → r < j
+  hung-higher : (r j : ℕ) → j < n → hung lo host r j ≡ true → r < j
   unfolding workClusters
-  hung-above r j p h =
+  hung-higher r j p h =
       let e = eqb-true (getD host j 0) r (and-right (ltb 0 (getD lo j 0)) (eqb (getD host j 0) r) h) in
       let b = ready .sound .host-below j p (and-left (ltb 0 (getD lo j 0)) (eqb (getD host j 0) r) h) in
       omega arith
+
+  pub hung-above : (r : ℕ) → r < n → HungAbove lo host r
+  hung-above r p j l = not-true-false (hung lo host r j) (λ h. let b = hung-higher r j (omega arith) h in omega arith)
 
   -- marks
   pub unmarked-branches :
@@ -110,10 +113,10 @@ module _ (n : ℕ) (ns ws os lo hi host fixed gates : List ℕ) (ready : Ready n
           fixed = refl;
           gates = refl;
           cutAny = λ j p h. refl;
-          count = λ j p h. climbs .counts j (λ z. let b = hung-above r j p h in omega arith);
-          lightest = λ j p h. climbs .lights j (λ z. let b = hung-above r j p h in omega arith);
-          hasUngated = λ j p h. climbs .flags j (λ z. let b = hung-above r j p h in omega arith);
-          ungated = λ j p h. climbs .ungateds j (λ z. let b = hung-above r j p h in omega arith);
+          count = λ j p h. climbs .counts j (λ z. let b = hung-higher r j p h in omega arith);
+          lightest = λ j p h. climbs .lights j (λ z. let b = hung-higher r j p h in omega arith);
+          hasUngated = λ j p h. climbs .flags j (λ z. let b = hung-higher r j p h in omega arith);
+          ungated = λ j p h. climbs .ungateds j (λ z. let b = hung-higher r j p h in omega arith);
           fewest = getD-set-same fewest₀ r fewest 0 (omega arith);
           anyOk = getD-set-same anyOk₀ r anyOk false (omega arith);
           anyWeight = getD-set-same anyWeight₀ r anyWeight 0 (omega arith);

@@ -3,7 +3,7 @@ ghost use mathlib.Core.Path.{_≡_};
 ghost use mathlib.Core.Bool.{true, false};
 ghost use Prim.Native.Nat.{ℕ, _+_, _<_, _≤_, _^_};
 ghost use lib.ListN.{length, getD};
-ghost use Rattle.jumpers.specs.Close.{hung, branchSum, flaggedSum, clearCount, heavierThan, Heaviest, Cutting, Lengths, Room, Closes};
+ghost use Rattle.jumpers.specs.Close.{hung, HungAbove, branchSum, flaggedSum, clearCount, heavierThan, Heaviest, Cutting, Lengths, Room, Closes};
 
 // How many branches an option cuts, and the weight of the others.
 struct Choice {
@@ -29,10 +29,11 @@ fn hangs(lo: &[u64], host: &[usize], r: usize, j: usize) -> bool
 fn branch_sum(lo: &[u64], host: &[usize], values: &[u64], r: usize, n: usize) -> u64
     requires { ⌜ (n ≤ length (now lo)) × (n ≤ length (now host)) × (n ≤ length (now values)) ⌝ }
     requires { ⌜ branchSum n (now lo) (now host) r (now values) < 2 ^ 64 ⌝ }
+    requires { ⌜ (r < n) × HungAbove (now lo) (now host) r ⌝ }
     ensures { λ s. ⌜ s ≡ branchSum n (now (lo .entry)) (now (host .entry)) r (now (values .entry)) ⌝ }
 {
     let mut sum: u64 = 0;
-    let mut j: usize = 0;
+    let mut j = r + 1;
     while j < n {
         if hangs(lo, host, r, j) {
             sum += values[j];
@@ -53,13 +54,14 @@ fn ungated_option(
 ) -> Choice
     requires { ⌜ (n ≤ length (now lo)) × (n ≤ length (now host)) × (n ≤ length (now ungatable)) × (n ≤ length (now ungated)) ⌝ }
     requires { ⌜ flaggedSum n (now lo) (now host) r (now ungatable) (now ungated) < 2 ^ 64 ⌝ }
+    requires { ⌜ (r < n) × HungAbove (now lo) (now host) r ⌝ }
     ensures { λ o. ⌜ (o .cuts ≡ clearCount n (now (lo .entry)) (now (host .entry)) r (now (ungatable .entry)))
         × (o .weight ≡ flaggedSum n (now (lo .entry)) (now (host .entry)) r (now (ungatable .entry)) (now (ungated .entry)))
         × (o .cuts ≤ n) ⌝ }
 {
     let mut cuts: u64 = 0;
     let mut weight: u64 = 0;
-    let mut j: usize = 0;
+    let mut j = r + 1;
     while j < n {
         if hangs(lo, host, r, j) {
             if ungatable[j] {
@@ -96,11 +98,12 @@ fn heavier(
 // The heaviest branch of cluster r that is not cut yet, if one weighs more than 0.
 fn heaviest(lo: &[u64], host: &[usize], lightest: &[u64], cut: &[bool], r: usize, n: usize) -> Found
     requires { ⌜ (n ≤ length (now lo)) × (n ≤ length (now host)) × (n ≤ length (now lightest)) × (n ≤ length (now cut)) ⌝ }
+    requires { ⌜ (r < n) × HungAbove (now lo) (now host) r ⌝ }
     ensures { λ f. ⌜ Heaviest n (now (lo .entry)) (now (host .entry)) (now (lightest .entry)) (now (cut .entry)) r (f .at) (f .weight) ⌝ }
 {
     let mut at: usize = 0;
     let mut weight: u64 = 0;
-    let mut j: usize = 0;
+    let mut j = r + 1;
     while j < n {
         if heavier(lo, host, lightest, cut, r, weight, j) {
             at = j;
@@ -125,6 +128,7 @@ fn cut_heaviest(
     requires { ⌜ (n ≤ length (now lo)) × (n ≤ length (now host)) × (n ≤ length (now lightest)) × (n ≤ length (now cut)) ⌝ }
     requires { ⌜ (fixed ≤ limit) × (fixed + branchSum n (now lo) (now host) r (now lightest) < 2 ^ 64) ⌝ }
     requires { ⌜ ((j : ℕ) → j < n → hung (now lo) (now host) r j ≡ true → getD (now cut) j false ≡ false) ⌝ }
+    requires { ⌜ (r < n) × HungAbove (now lo) (now host) r ⌝ }
     ensures { λ o. ⌜ Cutting n (now (lo .entry)) (now (host .entry)) (now (lightest .entry)) (now (cut .entry)) (now (cut .exit)) r fixed limit (o .cuts) (o .weight)
         × (o .weight ≤ limit) ⌝ }
 {
@@ -168,6 +172,7 @@ pub fn close(
     requires { ⌜ Lengths n (now lo) (now host) (now count) (now lightest) (now ungatable) (now ungated) (now cut) ⌝ }
     requires { ⌜ Room n (now lo) (now host) (now count) (now lightest) (now ungatable) (now ungated) r fixed ⌝ }
     requires { ⌜ ((j : ℕ) → j < n → hung (now lo) (now host) r j ≡ true → getD (now cut) j false ≡ false) ⌝ }
+    requires { ⌜ (r < n) × HungAbove (now lo) (now host) r ⌝ }
     ensures { λ x. ⌜ Closes n (now (lo .entry)) (now (host .entry)) (now (count .entry)) (now (lightest .entry)) (now (ungatable .entry)) (now (ungated .entry)) (now (cut .entry)) (now (cut .exit)) r fixed gates limit
         (x .fewest) (x .any) (x .anyweight) (x .ungated) (x .ungatedweight) (x .hopeless) ⌝ }
 {

@@ -8,7 +8,7 @@ ghost use Prim.Native.Nat.{ℕ, _<_, _≤_, _^_};
 ghost use lib.ListN.{length, getD, set};
 ghost use Rattle.cuts.specs.Passes.{Counted};
 ghost use Rattle.jumpers.specs.Arrays.{downOf};
-ghost use Rattle.jumpers.specs.Close.{hung, Lengths, Room, Closes};
+ghost use Rattle.jumpers.specs.Close.{hung, HungAbove, Lengths, Room, Closes};
 ghost use Rattle.jumpers.specs.Climb.{Branch, Closable};
 ghost use Rattle.jumpers.specs.Count.{workClusters, Ready, ClimbsAt, rootSum, Reach, Hopeless};
 
@@ -36,6 +36,7 @@ fn close_at(
     requires { ⌜ (r < n) × (n ≤ length (now fixed)) × (n ≤ length (now gates)) × (n ≤ length (now fewest)) × (n ≤ length (now any)) × (n ≤ length (now anyweight)) × (n ≤ length (now «ungated_ok»)) × (n ≤ length (now «ungated_weight»)) ⌝ }
     requires { ⌜ Room n (now lo) (now host) (now count) (now lightest) (now ungatable) (now ungated) r (getD (now fixed) r 0) ⌝ }
     requires { ⌜ ((j : ℕ) → j < n → hung (now lo) (now host) r j ≡ true → getD (now cut) j false ≡ false) ⌝ }
+    requires { ⌜ HungAbove (now lo) (now host) r ⌝ }
     ensures { λ x. ⌜ Closes n (now (lo .entry)) (now (host .entry)) (now (count .entry)) (now (lightest .entry)) (now (ungatable .entry)) (now (ungated .entry)) (now (cut .entry)) (now (cut .exit)) r (getD (now (fixed .entry)) r 0) (getD (now (gates .entry)) r 0) limit
         (x .fewest) (x .any) (x .anyweight) (x .ungated) (x .ungatedweight) (x .hopeless) ⌝ }
     ensures { λ x. ⌜ (now (fewest .exit) ≡ set (now (fewest .entry)) r (x .fewest))

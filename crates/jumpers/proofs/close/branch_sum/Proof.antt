@@ -16,8 +16,11 @@ Inv-loop lo host values r n sum₀ j₀ sum j = (j ≤ n) × (sum ≡ branchSum 
 abbrev μ-loop : tie.MeasureT-loop
 μ-loop lo host values r n sum₀ j₀ sum j = n - j
 
+add-j : tie.Need-add-j Inv-loop μ-loop
+add-j c = omega arith
+
 loop-holds : tie.Need-loop-holds Inv-loop μ-loop
-loop-holds c = (omega arith, sym (branch-none _ _ _ _))
+loop-holds c = (omega arith, sym (branch-none _ _ _ _ (c .before .before .before .pre .1 .1 .1)))
 
 hangs-requires : tie.Need-hangs-requires Inv-loop μ-loop
 hangs-requires c κs = omega arith
@@ -38,8 +41,8 @@ add-sum c =
       branch-room (s .args .lo .now) (s .args .host .now) (s .args .values .now) (s .args .r) (l .j) (s .args .n) (omega arith) h,
     )
 
-add-j : tie.Need-add-j Inv-loop μ-loop
-add-j c = omega arith
+add-j-2 : tie.Need-add-j-2 Inv-loop μ-loop
+add-j-2 c = omega arith
 
 loop-less : tie.Need-loop-less Inv-loop μ-loop
 loop-less c = omega arith
@@ -75,12 +78,13 @@ branch-sum-spec =
     (tie.spec
     Inv-loop
     μ-loop
+    add-j
     loop-holds
     hangs-requires
     mul-sum
     shared-slice-read-sum
     add-sum
-    add-j
+    add-j-2
     loop-less
     loop-again
     returns)

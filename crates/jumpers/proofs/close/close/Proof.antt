@@ -10,13 +10,13 @@ use Rattle.jumpers.proofs.close.close.Statement.{statement}
 use Rattle.jumpers.proofs.close.close.Tie as tie
 
 branch-sum-requires : tie.Need-branch-sum-requires
-branch-sum-requires c κs = let p = c .before .before .before .before .before .before .before .pre in omega (arith, p .0 .los, p .0 .hosts, p .0 .counts, p .1 .0 .counts)
+branch-sum-requires c κs = let p = c .before .before .before .before .before .before .before .pre in ((p .0 .los, p .0 .hosts, p .0 .counts), (omega (arith, p .1 .0 .counts), p .1 .1 .1))
 
 returns : tie.Need-returns
 returns c = record { long = refl; others = λ j h. refl; closed = λ e. absurd (true≢false e); gated = λ e. c .if2 .taken; heavy = λ e. c .before .if1 .taken }
 
 ungated-option-requires : tie.Need-ungated-option-requires
-ungated-option-requires c κs = let p = c .before .before .before .before .before .before .before .before .before .before .pre in omega (arith, p .0 .los, p .0 .hosts, p .0 .flags, p .0 .weights, p .1 .0 .ungated-weights)
+ungated-option-requires c κs = let p = c .before .before .before .before .before .before .before .before .before .before .pre in ((p .0 .los, p .0 .hosts, p .0 .flags, p .0 .weights), (omega (arith, p .1 .0 .ungated-weights), p .1 .1 .1))
 
 add-weight : tie.Need-add-weight
 add-weight c = let p = c .before .before .before .before .before .before .before .before .before .before .before .before .pre in omega (arith, p .1 .0 .ungated-weights, c .before .ungated-option .ensures .1)
@@ -67,7 +67,7 @@ returns-3 c =
     }
 
 ungated-option-requires-2 : tie.Need-ungated-option-requires-2
-ungated-option-requires-2 c κs = let p = c .before .before .before .before .before .before .before .before .before .before .before .before .before .before .before .pre in omega (arith, p .0 .los, p .0 .hosts, p .0 .flags, p .0 .weights, p .1 .0 .ungated-weights)
+ungated-option-requires-2 c κs = let p = c .before .before .before .before .before .before .before .before .before .before .before .before .before .before .before .pre in ((p .0 .los, p .0 .hosts, p .0 .flags, p .0 .weights), (omega (arith, p .1 .0 .ungated-weights), p .1 .1 .1))
 
 same-length-2 : tie.Need-same-length-2
 same-length-2 c = c .before .before .before .before .before .before .before .before .cut-heaviest .ensures .0 .long

@@ -14,7 +14,7 @@ abbrev μ-loop : tie.MeasureT-loop
 μ-loop lo host lightest cut₀ r n fixed limit left₀ cuts₀ cut left cuts = left
 
 branch-sum-requires : tie.Need-branch-sum-requires Inv-loop μ-loop
-branch-sum-requires c κs = omega arith
+branch-sum-requires c κs = let p = c .before .before .before .before .pre in ((p .0 .0, p .0 .1, p .0 .2), (omega arith, p .1 .1 .1))
 
 add-left : tie.Need-add-left Inv-loop μ-loop
 add-left c = omega arith
@@ -22,10 +22,10 @@ add-left c = omega arith
 loop-holds : tie.Need-loop-holds Inv-loop μ-loop
 loop-holds c =
     let s = c .before .before .before .before .before in
-    (cutting-start _ _ _ _ _ _ _ _ _ (s .pre .1 .1) (omega arith), omega arith)
+    (cutting-start _ _ _ _ _ _ _ _ _ (s .pre .1 .1 .0) (omega arith), omega arith)
 
 heaviest-requires : tie.Need-heaviest-requires Inv-loop μ-loop
-heaviest-requires c κs = omega arith
+heaviest-requires c κs = (omega arith, c .before .before .before .before .before .before .before .before .pre .1 .1 .1)
 
 slice-write-cut : tie.Need-slice-write-cut Inv-loop μ-loop
 slice-write-cut c =

@@ -15,8 +15,11 @@ Inv-loop lo host lightest cut r n at₀ weight₀ j₀ at weight j = (j ≤ n) �
 abbrev μ-loop : tie.MeasureT-loop
 μ-loop lo host lightest cut r n at₀ weight₀ j₀ at weight j = n - j
 
+add-j : tie.Need-add-j Inv-loop μ-loop
+add-j c = omega arith
+
 loop-holds : tie.Need-loop-holds Inv-loop μ-loop
-loop-holds c = (omega arith, heaviest-none _ _ _ _ _ _)
+loop-holds c = (omega arith, heaviest-none _ _ _ _ _ _ (c .before .before .before .before .pre .1 .1))
 
 heavier-requires : tie.Need-heavier-requires Inv-loop μ-loop
 heavier-requires c κs = omega arith
@@ -27,8 +30,8 @@ mul-weight c = omega arith
 shared-slice-read-weight : tie.Need-shared-slice-read-weight Inv-loop μ-loop
 shared-slice-read-weight c = omega arith
 
-add-j : tie.Need-add-j Inv-loop μ-loop
-add-j c = omega arith
+add-j-2 : tie.Need-add-j-2 Inv-loop μ-loop
+add-j-2 c = omega arith
 
 loop-less : tie.Need-loop-less Inv-loop μ-loop
 loop-less c = omega arith
@@ -59,11 +62,12 @@ heaviest-spec =
     (tie.spec
     Inv-loop
     μ-loop
+    add-j
     loop-holds
     heavier-requires
     mul-weight
     shared-slice-read-weight
-    add-j
+    add-j-2
     loop-less
     loop-again
     returns)

@@ -15,10 +15,13 @@ Inv-loop lo host ungatable ungated r n cuts₀ weight₀ j₀ cuts weight j = (j
 abbrev μ-loop : tie.MeasureT-loop
 μ-loop lo host ungatable ungated r n cuts₀ weight₀ j₀ cuts weight j = n - j
 
+add-j : tie.Need-add-j Inv-loop μ-loop
+add-j c = omega arith
+
 loop-holds : tie.Need-loop-holds Inv-loop μ-loop
 loop-holds c =
     let s = c .before .before .before .before in
-    let z = option-none (s .args .lo .now) (s .args .host .now) (s .args .ungated .now) (s .args .ungatable .now) (s .args .r) in
+    let z = option-none (s .args .lo .now) (s .args .host .now) (s .args .ungated .now) (s .args .ungatable .now) (s .args .r) (s .pre .1 .1 .1) in
     (omega arith, omega arith, sym (z .0), sym (z .1))
 
 hangs-requires : tie.Need-hangs-requires Inv-loop μ-loop
@@ -46,8 +49,8 @@ add-weight c =
 add-cuts : tie.Need-add-cuts Inv-loop μ-loop
 add-cuts c = omega arith
 
-add-j : tie.Need-add-j Inv-loop μ-loop
-add-j c = omega arith
+add-j-2 : tie.Need-add-j-2 Inv-loop μ-loop
+add-j-2 c = omega arith
 
 loop-less : tie.Need-loop-less Inv-loop μ-loop
 loop-less c = omega arith
@@ -83,6 +86,7 @@ ungated-option-spec =
     (tie.spec
     Inv-loop
     μ-loop
+    add-j
     loop-holds
     hangs-requires
     shared-slice-read-if2
@@ -90,7 +94,7 @@ ungated-option-spec =
     shared-slice-read-weight
     add-weight
     add-cuts
-    add-j
+    add-j-2
     loop-less
     loop-again
     returns)

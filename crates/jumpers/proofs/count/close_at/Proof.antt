@@ -18,7 +18,7 @@ shared-slice-read-close-2 : tie.Need-shared-slice-read-close-2
 shared-slice-read-close-2 c = search needs
 
 close-requires : tie.Need-close-requires
-close-requires c κs = search needs
+close-requires c κs = let p = c .before .before .before .before .before .before .before .before .before .before .before .before .before .before .before .before .before .pre in (p .0, (p .1 .1 .0, (p .1 .1 .1 .0, (p .1 .0 .0, p .1 .1 .1 .1))))
 
 mul-fewest : tie.Need-mul-fewest
 mul-fewest c = omega (arith, c .before .before .before .before .before .before .before .before .before .before .before .before .before .before .before .before .before .before .before .before .pre .1 .0, c .before .before .before .before .before .before .before .before .before .before .before .before .before .before .before .before .before .before .before .before .pre .1 .1 .0 .few)

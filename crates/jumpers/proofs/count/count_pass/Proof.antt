@@ -9,7 +9,7 @@ use Rattle.cuts.specs.Passes.{Counted}
 use Rattle.jumpers.specs.Arrays.{downOf}
 use Rattle.jumpers.specs.Count.{workClusters, Unmarked, Kept}
 use Rattle.jumpers.specs.CountStep.{closable}
-use Rattle.jumpers.specs.CountArrays.{counted-none, room-of, unmarked-branches, unmarked-less, branch-of, counted-turn}
+use Rattle.jumpers.specs.CountArrays.{counted-none, room-of, unmarked-branches, unmarked-less, hung-above, branch-of, counted-turn}
 use Rattle.jumpers.specs.CountStored.{roots-few}
 use Rattle.jumpers.proofs.count.count_pass.Statement.{statement}
 use Rattle.jumpers.proofs.count.count_pass.Tie as tie
@@ -61,7 +61,10 @@ close-at-requires c κs =
         (inside, ready .fixeds, ready .gate-counts, omega (arith, reach .fewests, i .3 .fewests), omega (arith, reach .anys, i .3 .anys), omega (arith, reach .any-weights, i .3 .any-weights), omega (arith, reach .ungated-oks, i .3 .ungated-oks), omega (arith, reach .ungated-weights, i .3 .ungated-weights)),
         (
           room-of (a .n) (a .nodes .now) (a .wires .now) (a .obstacles .now) (a .lo .now) (a .hi .now) (a .host .now) (a .fixed .now) (a .gates .now) ready (a .limit) (l .cut) (l .fewest) (l .any) (l .anyweight) (l .ungated-ok) (l .ungated-weight) (l .count) (l .lightest) (l .ungatable) (l .ungated) (l .near) q inside (rw e (i .1)),
-          unmarked-branches (a .n) (a .nodes .now) (a .wires .now) (a .obstacles .now) (a .lo .now) (a .hi .now) (a .host .now) (a .fixed .now) (a .gates .now) ready (l .cut) q (rw e (i .2)),
+          (
+            unmarked-branches (a .n) (a .nodes .now) (a .wires .now) (a .obstacles .now) (a .lo .now) (a .hi .now) (a .host .now) (a .fixed .now) (a .gates .now) ready (l .cut) q (rw e (i .2)),
+            hung-above (a .n) (a .nodes .now) (a .wires .now) (a .obstacles .now) (a .lo .now) (a .hi .now) (a .host .now) (a .fixed .now) (a .gates .now) ready q inside,
+          ),
         ),
       ),
     )
