@@ -165,6 +165,41 @@ fn report_repair_check_and_draw() {
     }
 }
 
+/// In the picture of 256 nodes every jumper has a label, and no label covers another.
+#[test]
+fn labels_of_a_large_net() {
+    for (stage, limit, jumpers) in [("1", "100", 128), ("6", "1500", 32)] {
+        let of = ["clock-256.net", "--stage", stage, "--limit", limit];
+        let list = antenna(&[&["repair"], &of[..]].concat(), &[]);
+        let drawn = antenna(&[&["draw", of[0], "-"], &of[1..]].concat(), &list.out);
+        let labels: Vec<(f64, f64, usize)> = drawn
+            .text
+            .lines()
+            .filter(|line| line.starts_with("<text") && line.contains("paint-order"))
+            .map(|line| {
+                let field = |name: &str| {
+                    let from = line.split(&format!(" {name}=\"")).nth(1).unwrap();
+                    from.split('"').next().unwrap().parse::<f64>().unwrap()
+                };
+                let text = line.split('>').nth(1).unwrap();
+                (
+                    field("x"),
+                    field("y"),
+                    text.split('<').next().unwrap().len(),
+                )
+            })
+            .collect();
+        assert_eq!(labels.len(), jumpers);
+        for (k, &(x, y, letters)) in labels.iter().enumerate() {
+            for &(other_x, other_y, other_letters) in &labels[..k] {
+                let left = if x < other_x { letters } else { other_letters };
+                let beside = (x - other_x).abs() >= 5.0 * left as f64;
+                assert!(beside || (y - other_y).abs() >= 8.0);
+            }
+        }
+    }
+}
+
 /// The pictures of README are those the command draws.
 #[test]
 fn pictures_of_readme() {
