@@ -1,7 +1,7 @@
 # make demo     build what is needed, and report, repair and draw a sample net
 # make test     prove every crate, build the library, run the Rust tests; the last line is 'N passed, M failed'
 # make bench    the proved library against plain Rust, as ratios
-# make fuzz     all four calls against the independent implementation, for SECONDS (3600)
+# make fuzz     all four calls against the independent implementation under libFuzzer, for SECONDS (3600)
 # make install  library, header, pkg-config file, programs and man pages under PREFIX
 
 PREFIX ?= /usr/local
@@ -22,8 +22,7 @@ bench: build
 	@cargo run --release --offline --locked --quiet --manifest-path bench/Cargo.toml
 
 fuzz: build
-	@$(CARGO) tests/Cargo.toml
-	@tests/target/release/fuzz $(SECONDS)
+	@tests/fuzz $(SECONDS)
 
 # rt proves what has changed since it was last proved, and nothing else.
 build: tools
