@@ -3,6 +3,7 @@
 use crate::net::{Net, Node};
 use crate::pieces::Piece;
 use crate::text::points;
+use crate::words::count;
 use std::fmt::Write;
 
 const SIDE: f64 = 1000.0;
@@ -339,10 +340,6 @@ pub fn svg(net: &Net, stage: u32, limit: u32, list: &[u8], pieces: &[Piece]) -> 
     legend(&mut picture.out, bottom, &summary);
     picture.out += "</svg>\n";
     picture.out
-}
-
-fn count(n: usize, what: &str) -> String {
-    format!("{n} {what}{}", if n == 1 { "" } else { "s" })
 }
 
 /// A node: a square is a gate, a ring a source, a dot neither.

@@ -13,7 +13,7 @@ use net::Net;
 use options::Options;
 use pieces::Piece;
 use std::process::ExitCode;
-use words::Failure;
+use words::{count, Failure};
 
 /// Exit status: done; harmful pieces, or refused; bad usage.
 const DONE: u8 = 0;
@@ -29,8 +29,11 @@ fn main() -> ExitCode {
             eprintln!("Try 'antenna --help'.");
             ExitCode::from(USAGE)
         }
-        Err(Failure::Refused(message)) => {
-            eprintln!("antenna: {message}");
+        Err(Failure::Refused(refusal)) => {
+            if words.iter().any(|word| word == "--json") {
+                options::print(&refusal.json());
+            }
+            eprintln!("antenna: {}", refusal.message);
             ExitCode::from(HARMFUL)
         }
     }
@@ -125,18 +128,26 @@ fn check(options: &Options) -> Result<u8, Failure> {
         ));
     } else if legal {
         options::print(&format!(
-            "legal: no piece is harmful with {placed} jumpers\n"
+            "legal: no piece is harmful with {}\n",
+            count(placed, "jumper")
         ));
-        if let Some(least) = least {
-            options::print(&if least == placed {
-                "smallest: no legal set has fewer\n".to_string()
-            } else {
-                format!("not smallest: {least} are enough (antenna repair names them)\n")
-            });
-        }
+        options::print(&match least {
+            Some(least) if least < placed => format!(
+                "not smallest: antenna repair needs {}\n",
+                count(least, "jumper")
+            ),
+            _ => "smallest: no legal set has fewer\n".to_string(),
+        });
     } else {
-        options::print(&format!("not legal: {} harmful pieces\n", harmful.len()));
+        options::print(&format!(
+            "not legal: {}\n",
+            count(harmful.len(), "harmful piece")
+        ));
         options::print(&pieces::table(&harmful));
+        options::print(&match least {
+            Some(least) => format!("antenna repair needs {}\n", count(least, "jumper")),
+            None => "no set of jumpers is legal at this limit\n".to_string(),
+        });
     }
     Ok(if legal { DONE } else { HARMFUL })
 }

@@ -1,6 +1,6 @@
 //! A net that the library has accepted.
 
-use crate::words::{self, Failure};
+use crate::words::{Failure, Refusal};
 use crate::{library, text};
 
 #[derive(Clone, Copy)]
@@ -60,18 +60,16 @@ impl Net {
             11 => sections.lines[2].get(place),
             _ => None,
         };
-        let refusal = words::refusal(answer);
-        Err(Failure::Refused(match line {
-            Some(line) => format!("{name}:{line}: {refusal}"),
-            None => format!("{name}: {refusal}"),
-        }))
+        Err(match line {
+            Some(line) => Refusal::at(&format!("{name}:{line}"), answer),
+            None => Refusal::at(name, answer),
+        })
     }
 
     fn of_file(name: &str, file: Vec<u8>) -> Result<Net, Failure> {
         let answer = library::read(&file);
         if answer.number != 0 {
-            let refusal = words::refusal(answer);
-            return Err(Failure::Refused(format!("{name}: {refusal}")));
+            return Err(Refusal::at(name, answer));
         }
         let number = |at: usize| u16::from_le_bytes([file[at], file[at + 1]]);
         let wires_at = 28 + 5 * answer.count as usize;

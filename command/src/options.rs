@@ -15,7 +15,8 @@ antenna: charge on the pieces of a routed net, and the fewest jumpers that keep 
 
 A NET is a net file or a net in text form, a JUMPERS file has a line 'WIRE POSITION' for each jumper; '-' is
 standard input. 'antenna COMMAND --help' says more.
-Exit status: 0 done, 1 harmful pieces or refused, 2 bad usage.
+Exit status: 0 done, 1 harmful pieces or refused, 2 bad usage. A refusal is printed in words on standard error, with --json
+also as an object on standard output.
 ";
 
 const REPORT: &str = "\

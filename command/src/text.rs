@@ -1,7 +1,7 @@
 //! Nets and jumper lists in text form.
 
 use crate::net::{Net, Sections};
-use crate::words::Failure;
+use crate::words::{Failure, Refusal};
 use std::fmt::Write;
 
 /// The words of each line that has some, with its number.
@@ -77,7 +77,7 @@ pub fn sections(name: &str, text: &str) -> Result<Sections, Failure> {
     };
     for (line, words) in lines(text) {
         record(&mut sections, line, &words)
-            .map_err(|message| Failure::Refused(format!("{name}:{line}: {message}")))?;
+            .map_err(|message| Refusal::of_text(format!("{name}:{line}: {message}")))?;
     }
     Ok(sections)
 }
@@ -109,7 +109,7 @@ pub fn jumpers(name: &str, bytes: &[u8]) -> Result<Vec<u8>, Failure> {
     let text = String::from_utf8_lossy(bytes);
     let mut list = Vec::new();
     for (line, words) in lines(&text) {
-        let told = |message: String| Failure::Refused(format!("{name}:{line}: {message}"));
+        let told = |message: String| Refusal::of_text(format!("{name}:{line}: {message}"));
         match words[..] {
             ["jumpers", _] if list.is_empty() => {}
             [wire, position] => {

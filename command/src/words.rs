@@ -6,11 +6,63 @@ pub enum Failure {
     /// The command was called wrongly.
     Usage(String),
     /// The library refused, or a text does not say a net.
-    Refused(String),
+    Refused(Refusal),
+}
+
+/// What the library answered, if it was asked, and the same in words.
+pub struct Refusal {
+    answer: Option<Answer>,
+    pub message: String,
+}
+
+impl Refusal {
+    /// A text that does not say a net or a list.
+    pub fn of_text(message: String) -> Failure {
+        Failure::Refused(Refusal {
+            answer: None,
+            message,
+        })
+    }
+
+    /// The library's refusal of what stands at a place of the user's.
+    pub fn at(place: &str, answer: Answer) -> Failure {
+        Failure::Refused(Refusal {
+            answer: Some(answer),
+            message: format!("{place}: {}", refusal(answer)),
+        })
+    }
+
+    pub fn json(&self) -> String {
+        let field = |value: Option<u64>| value.map_or("null".into(), |n| n.to_string());
+        format!(
+            "{{\"refused\": {}, \"place\": {}, \"message\": \"{}\"}}\n",
+            field(self.answer.map(|a| u64::from(a.number))),
+            field(self.answer.map(|a| a.place)),
+            escaped(&self.message)
+        )
+    }
+}
+
+/// A text as a JSON string has it.
+fn escaped(text: &str) -> String {
+    let mut out = String::new();
+    for c in text.chars() {
+        match c {
+            '"' | '\\' => out.extend(['\\', c]),
+            c if c < ' ' => out.push_str(&format!("\\u{:04x}", u32::from(c))),
+            c => out.push(c),
+        }
+    }
+    out
+}
+
+/// A number of things: 1 piece, 2 pieces.
+pub fn count(n: usize, what: &str) -> String {
+    format!("{n} {what}{}", if n == 1 { "" } else { "s" })
 }
 
 /// What a refusal means and what to do about it.
-pub fn refusal(answer: Answer) -> String {
+fn refusal(answer: Answer) -> String {
     let place = answer.place;
     let (what, advice) = match answer.number {
         1 => ("the stage is not 1 to 16".into(), "give --stage a number from 1 to 16"),
@@ -77,6 +129,9 @@ pub fn refusal(answer: Answer) -> String {
 
 impl From<Answer> for Failure {
     fn from(answer: Answer) -> Failure {
-        Failure::Refused(refusal(answer))
+        Failure::Refused(Refusal {
+            answer: Some(answer),
+            message: refusal(answer),
+        })
     }
 }

@@ -145,10 +145,17 @@ fn report_repair_check_and_draw() {
     assert!(ran.text.contains("smallest: no legal set has fewer"));
     let ran = antenna(&with("check", &["-"]), b"1 4\n1 7\n1 12\n");
     assert_eq!(ran.status, 0);
-    assert!(ran.text.contains("not smallest: 2 are enough"));
+    assert!(ran
+        .text
+        .contains("not smallest: antenna repair needs 2 jumpers"));
     let ran = antenna(&with("check", &["-"]), b"1 6\n");
     assert_eq!(ran.status, 1);
-    assert!(ran.text.contains("not legal: 1 harmful pieces"));
+    assert!(ran.text.contains("not legal: 1 harmful piece\n"));
+    assert!(ran.text.contains("antenna repair needs 2 jumpers"));
+    let ran = antenna(&["check", "a.net", "-", "--limit", "0"], b"1 6\n");
+    assert!(ran
+        .text
+        .contains("no set of jumpers is legal at this limit"));
     let ran = antenna(&with("check", &["-", "--json"]), b"1 6\n");
     assert_eq!(
         ran.text,
@@ -158,6 +165,20 @@ fn report_repair_check_and_draw() {
     assert!(ran
         .text
         .starts_with("{\"jumpers\": [{\"wire\": 1, \"position\": "));
+    let ran = antenna(&["repair", "a.net", "--limit", "0", "--json"], &[]);
+    assert_eq!(ran.status, 1);
+    assert!(ran
+        .text
+        .starts_with("{\"refused\": 15, \"place\": 0, \"message\": \"refused 15 0: no set"));
+    let ran = antenna(
+        &["report", "-", "--limit", "0", "--json"],
+        b"node 0 at \"\\ 1",
+    );
+    assert_eq!(ran.status, 1);
+    assert_eq!(
+        ran.text,
+        "{\"refused\": null, \"place\": null, \"message\": \"-:1: '\\\"\\\\' is no number from 0 to 65535\"}\n"
+    );
     for name in samples() {
         let ran = antenna(&["draw", &name, "--stage", "3", "--limit", "30"], &[]);
         assert!(ran.text.starts_with("<svg ") && ran.text.ends_with("</svg>\n"));
