@@ -44,3 +44,37 @@ fn caller() {
 fn editor() {
     prints("editor");
 }
+
+/// The header is C++ too, and its calls keep their C names there.
+#[test]
+fn header_in_cpp() {
+    let program = Path::new(env!("CARGO_TARGET_TMPDIR")).join("header");
+    let source = program.with_extension("cpp");
+    std::fs::write(
+        &source,
+        "#include <antenna.h>\nint main() { return antenna_read(nullptr, 0).number == ANTENNA_HEAD ? 0 : 1; }\n",
+    )
+    .unwrap();
+    let built = Command::new("g++")
+        .args([
+            "-std=c++11",
+            "-Wall",
+            "-Wextra",
+            "-Werror",
+            "-pedantic",
+            "-I",
+        ])
+        .arg(root().join("include"))
+        .arg(&source)
+        .arg(root().join("target/staticlib/libantenna.a"))
+        .arg("-o")
+        .arg(&program)
+        .output()
+        .expect("g++ runs");
+    assert!(
+        built.status.success(),
+        "{}",
+        String::from_utf8_lossy(&built.stderr)
+    );
+    assert!(Command::new(program).status().expect("it runs").success());
+}
