@@ -10,28 +10,31 @@ CARGO = cargo build --release --offline --locked --quiet --manifest-path
 LIBRARY = target/staticlib/libantenna.a
 COMMAND = command/target/release/antenna
 
-.PHONY: test demo bench fuzz install build tools
+.PHONY: test demo bench fuzz install library programs tools
 
 test: tools
 	@tests/run
 
-demo: build
+demo: library
 	@examples/demo
 
-bench: build
+bench: library
 	@cargo run --release --offline --locked --quiet --manifest-path bench/Cargo.toml
 
-fuzz: build
+fuzz: library
 	@tests/fuzz $(SECONDS)
 
 # rt proves what has changed since it was last proved, and nothing else.
-build: tools
+library: tools
 	@mkdir -p target
 	@echo "proving and building; the first time takes some minutes"
-	@rt check report repair > target/build.log 2>&1 && rt staticlib antenna >> target/build.log 2>&1 || { tail -n 30 target/build.log; exit 1; }
+	@rt staticlib antenna > target/library.log 2>&1 || { tail -n 30 target/library.log; exit 1; }
 	@$(CARGO) command/Cargo.toml
 
-install: build
+programs: library
+	@rt check report repair > target/programs.log 2>&1 || { tail -n 30 target/programs.log; exit 1; }
+
+install: library programs
 	@install -d $(DESTDIR)$(PREFIX)/include $(DESTDIR)$(PREFIX)/lib/pkgconfig $(DESTDIR)$(PREFIX)/bin
 	@install -d $(DESTDIR)$(PREFIX)/share/man/man1 $(DESTDIR)$(PREFIX)/share/man/man3
 	@install -m 644 include/antenna.h $(DESTDIR)$(PREFIX)/include
