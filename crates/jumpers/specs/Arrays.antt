@@ -25,16 +25,17 @@ clustersOf s lo hi host fixed gates =
       gates = λ r. getD gates r 0;
     }
 
+-- what a closing finds of the ungated option is in no array
 unfoldable pub downOf :
-    List Bool → List ℕ → List Bool → List ℕ → List Bool → List ℕ → List ℕ → List ℕ → List Bool → List ℕ → List ℕ → Down
+    List Bool → List ℕ → List Bool → List ℕ → (ℕ → Bool) → (ℕ → ℕ) → List ℕ → List ℕ → List Bool → List ℕ → List ℕ → Down
 downOf cutAny fewest anyOk anyWeight ungatedOk ungatedWeight count lightest hasUngated ungated near =
     record {
       cutAny = λ j. getD cutAny j false;
       fewest = λ r. getD fewest r 0;
       anyOk = λ r. getD anyOk r false;
       anyWeight = λ r. getD anyWeight r 0;
-      ungatedOk = λ r. getD ungatedOk r false;
-      ungatedWeight = λ r. getD ungatedWeight r 0;
+      ungatedOk = ungatedOk;
+      ungatedWeight = ungatedWeight;
       count = λ j. getD count j 0;
       lightest = λ j. getD lightest j 0;
       hasUngated = λ j. getD hasUngated j false;

@@ -72,7 +72,7 @@ module _ (ws lo hi host : List ℕ) (cut ok : List Bool) (weight : List ℕ) (un
 
   -- the clusters of a net at a stage have the options and cuts of the pass up, whatever the arrays that it does not read
   pub chosen-of :
-      (s : Stage) (fixed gates : List ℕ) (fewest : List ℕ) (ungatedOk : List Bool) (ungatedWeight count lightest ungated : List ℕ) (mode high : List Bool) (r : ℕ) →
+      (s : Stage) (fixed gates : List ℕ) (fewest : List ℕ) (ungatedOk : ℕ → Bool) (ungatedWeight : ℕ → ℕ) (count lightest ungated : List ℕ) (mode high : List Bool) (r : ℕ) →
       s .factor r ≡ wireFactor ws r →
       Chooses ws lo hi host cut ok weight ungatable near limit mode high r →
       Chosen (clustersOf s lo hi host fixed gates) limit (downOf cut fewest ok weight ungatedOk ungatedWeight count lightest ungatable ungated near) (upOf mode high) r

@@ -11,8 +11,9 @@ use Rattle.laws.specs.Sum.{χ, sum}
 use Rattle.net.specs.Net.{wireFactor}
 use Rattle.points.specs.Cuttable.{Checked}
 use Rattle.cuts.specs.Cluster.{Clusters, Sound}
-use Rattle.cuts.specs.Passes.{Climbed}
+use Rattle.cuts.specs.Passes.{Climbed, Counted}
 use Rattle.cuts.specs.Bounds.{allWeight}
+use Rattle.jumpers.specs.Arrays.{downOf}
 use Rattle.jumpers.specs.Climb.{openAt, wireOf, climbingOf}
 
 -- the clusters of n nodes, by their work arrays: every wire counts as made
@@ -63,20 +64,26 @@ pub record ClimbsAt
       r
   pub none : getD lo r 0 ≡ 0 → getD near r 0 ≡ 0
 
+-- the clusters from r on are closed and climbed
+pub record CountedFrom
+    (c : Clusters) (limit : ℕ) (cut : List Bool) (fewest : List ℕ) (anyOk : List Bool) (anyWeight count lightest : List ℕ)
+    (hasUngated : List Bool) (ungated near : List ℕ) (r : ℕ) : Type 0 where
+  pub ungatedOk : ℕ → Bool
+  pub ungatedWeight : ℕ → ℕ
+  pub counted : Counted c limit (downOf cut fewest anyOk anyWeight ungatedOk ungatedWeight count lightest hasUngated ungated near) r
+
 -- the points of the clusters below m that hang on none
 unfoldable pub rootSum : ℕ → List ℕ → List ℕ → ℕ
 rootSum m lo fewest = sum m (λ r. χ (not (ltb 0 (getD lo r 0))) (getD fewest r 0))
 
 -- the arrays of the pass down reach to n
 pub record Reach
-    (n : ℕ) (cut : List Bool) (fewest : List ℕ) (anyOk : List Bool) (anyWeight : List ℕ) (ungatedOk : List Bool) (ungatedWeight count lightest : List ℕ)
+    (n : ℕ) (cut : List Bool) (fewest : List ℕ) (anyOk : List Bool) (anyWeight count lightest : List ℕ)
     (hasUngated : List Bool) (ungated near : List ℕ) : Type 0 where
   pub cuts : n ≤ length cut
   pub fewests : n ≤ length fewest
   pub anys : n ≤ length anyOk
   pub any-weights : n ≤ length anyWeight
-  pub ungated-oks : n ≤ length ungatedOk
-  pub ungated-weights : n ≤ length ungatedWeight
   pub counts : n ≤ length count
   pub lights : n ≤ length lightest
   pub flags : n ≤ length hasUngated
@@ -85,16 +92,14 @@ pub record Reach
 
 -- and keep their lengths
 pub record Kept
-    (cut₀ : List Bool) (fewest₀ : List ℕ) (anyOk₀ : List Bool) (anyWeight₀ : List ℕ) (ungatedOk₀ : List Bool) (ungatedWeight₀ count₀ lightest₀ : List ℕ)
+    (cut₀ : List Bool) (fewest₀ : List ℕ) (anyOk₀ : List Bool) (anyWeight₀ count₀ lightest₀ : List ℕ)
     (hasUngated₀ : List Bool) (ungated₀ near₀ : List ℕ)
-    (cut : List Bool) (fewest : List ℕ) (anyOk : List Bool) (anyWeight : List ℕ) (ungatedOk : List Bool) (ungatedWeight count lightest : List ℕ)
+    (cut : List Bool) (fewest : List ℕ) (anyOk : List Bool) (anyWeight count lightest : List ℕ)
     (hasUngated : List Bool) (ungated near : List ℕ) : Type 0 where
   pub cuts : length cut ≡ length cut₀
   pub fewests : length fewest ≡ length fewest₀
   pub anys : length anyOk ≡ length anyOk₀
   pub any-weights : length anyWeight ≡ length anyWeight₀
-  pub ungated-oks : length ungatedOk ≡ length ungatedOk₀
-  pub ungated-weights : length ungatedWeight ≡ length ungatedWeight₀
   pub counts : length count ≡ length count₀
   pub lights : length lightest ≡ length lightest₀
   pub flags : length hasUngated ≡ length hasUngated₀

@@ -2,22 +2,33 @@
 -- Assumes nothing.
 use Prim.Native.Nat.{ℕ, _+_, _≤_, _<_}
 use mathlib.Core.Path.{_≡_, refl, _∙_}
-use mathlib.Core.Bool.{Bool, true, false}
+use mathlib.Core.Logic.{_≢_}
+use mathlib.Core.Bool.{Bool, true, false, cond}
 use mathlib.Core.List.{List}
 use native.Mathlib.Omega.{arith}
 use lib.ListN.{length, getD, set}
 use lib.Seq.{getD-set-same, getD-set-other}
 use lib.Dec.{eqb, ltb}
-use borrow.Author.Tests.{eqb-true, ne-eqb, ltb-true, ltb-false, lt-ltb}
+use borrow.Author.Tests.{eqb-true, eq-eqb, ne-eqb, ltb-true, ltb-false, lt-ltb}
 use Rattle.laws.specs.Sums.{and-left, and-right, not-true-false}
-use Rattle.cuts.specs.Passes.{Down, Counted}
+use Rattle.cuts.specs.Passes.{Down}
 use Rattle.cuts.specs.Bounds.{sums-bounded}
 use Rattle.jumpers.specs.Arrays.{downOf}
 use Rattle.jumpers.specs.Close.{hung, HungAbove, branchSum, flaggedSum, Room, Closes, branchesOf, closingOf}
 use Rattle.jumpers.specs.Climb.{Branch, wireOf, climbingOf}
-use Rattle.jumpers.specs.Count.{workClusters, Ready, Unmarked, ClimbsAt}
+use Rattle.jumpers.specs.Count.{workClusters, Ready, Unmarked, ClimbsAt, CountedFrom}
 use Rattle.jumpers.specs.CountFrame.{SameCluster, SameBranch, closed-same, climbed-same}
 use Rattle.jumpers.specs.CountStep.{Turn, counted-step}
+
+-- a function with one value changed
+abbrev put : {A : Type 0} → (ℕ → A) → ℕ → A → ℕ → A
+put f r x j = cond (eqb j r) x (f j)
+
+put-same : {A : Type 0} (f : ℕ → A) (r : ℕ) (x : A) → put f r x r ≡ x
+put-same f r x = rw (eq-eqb r r refl)
+
+put-other : {A : Type 0} (f : ℕ → A) (r j : ℕ) (x : A) → j ≢ r → put f r x j ≡ f j
+put-other f r j x ne = rw (ne-eqb j r ne)
 
 module _ (n : ℕ) (ns ws os lo hi host fixed gates : List ℕ) (ready : Ready n ns ws os lo hi host fixed gates) where
   -- a cuttable wire has its lowest and highest open position
@@ -68,16 +79,16 @@ module _ (n : ℕ) (ns ws os lo hi host fixed gates : List ℕ) (ready : Ready n
 
   -- the numbers of cluster r fit
   pub room-of :
-      (limit : ℕ) (cut : List Bool) (fewest : List ℕ) (anyOk : List Bool) (anyWeight : List ℕ) (ungatedOk : List Bool) (ungatedWeight count lightest : List ℕ)
+      (limit : ℕ) (cut : List Bool) (fewest : List ℕ) (anyOk : List Bool) (anyWeight count lightest : List ℕ)
       (hasUngated : List Bool) (ungated near : List ℕ) (r : ℕ) →
       r < n →
-      Counted (workClusters n ns ws os lo hi host fixed gates) limit (downOf cut fewest anyOk anyWeight ungatedOk ungatedWeight count lightest hasUngated ungated near) (r + 1) →
+      CountedFrom (workClusters n ns ws os lo hi host fixed gates) limit cut fewest anyOk anyWeight count lightest hasUngated ungated near (r + 1) →
       Room n lo host count lightest hasUngated ungated r (getD fixed r 0)
   unfolding workClusters downOf branchSum flaggedSum
-  room-of limit cut fewest anyOk anyWeight ungatedOk ungatedWeight count lightest hasUngated ungated near r p k =
+  room-of limit cut fewest anyOk anyWeight count lightest hasUngated ungated near r p k =
       let c = workClusters n ns ws os lo hi host fixed gates in
-      let d = downOf cut fewest anyOk anyWeight ungatedOk ungatedWeight count lightest hasUngated ungated near in
-      let b = sums-bounded c limit d (ready .sound) (r + 1) k r (omega arith) p in
+      let d = downOf cut fewest anyOk anyWeight (k .ungatedOk) (k .ungatedWeight) count lightest hasUngated ungated near in
+      let b = sums-bounded c limit d (ready .sound) (r + 1) (k .counted) r (omega arith) p in
       record {
         few = omega (arith, ready .few);
         counts = omega (arith, b .count, ready .few);
@@ -88,16 +99,20 @@ module _ (n : ℕ) (ns ws os lo hi host fixed gates : List ℕ) (ready : Ready n
   -- the arrays before and after a turn at r
   module _
       (limit r : ℕ) (inside : r < n)
-      (cut₀ cut : List Bool) (fewest₀ : List ℕ) (anyOk₀ : List Bool) (anyWeight₀ : List ℕ) (ungatedOk₀ : List Bool) (ungatedWeight₀ : List ℕ)
+      (cut₀ cut : List Bool) (fewest₀ : List ℕ) (anyOk₀ : List Bool) (anyWeight₀ : List ℕ)
       (count₀ lightest₀ : List ℕ) (hasUngated₀ : List Bool) (ungated₀ near₀ count lightest : List ℕ) (hasUngated : List Bool) (ungated near : List ℕ)
       (fewest : ℕ) (anyOk : Bool) (anyWeight : ℕ) (ungatedOk : Bool) (ungatedWeight : ℕ) (hopeless : Bool)
       (closes : Closes n lo host count₀ lightest₀ hasUngated₀ ungated₀ cut₀ cut r (getD fixed r 0) (getD gates r 0) limit fewest anyOk anyWeight ungatedOk ungatedWeight hopeless)
       (goes-on : hopeless ≡ false)
       (climbs : ClimbsAt ns ws os lo hi r limit fewest anyWeight ungatedOk ungatedWeight count₀ lightest₀ hasUngated₀ ungated₀ near₀ count lightest hasUngated ungated near)
-      (l1 : n ≤ length fewest₀) (l2 : n ≤ length anyOk₀) (l3 : n ≤ length anyWeight₀) (l4 : n ≤ length ungatedOk₀) (l5 : n ≤ length ungatedWeight₀) where
+      (l1 : n ≤ length fewest₀) (l2 : n ≤ length anyOk₀) (l3 : n ≤ length anyWeight₀)
+      (k : CountedFrom (workClusters n ns ws os lo hi host fixed gates) limit cut₀ fewest₀ anyOk₀ anyWeight₀ count₀ lightest₀ hasUngated₀ ungated₀ near₀ (r + 1)) where
+    old : Down
+    old = downOf cut₀ fewest₀ anyOk₀ anyWeight₀ (k .ungatedOk) (k .ungatedWeight) count₀ lightest₀ hasUngated₀ ungated₀ near₀
+
     new : Down
     new =
-        downOf cut (set fewest₀ r fewest) (set anyOk₀ r anyOk) (set anyWeight₀ r anyWeight) (set ungatedOk₀ r ungatedOk) (set ungatedWeight₀ r ungatedWeight)
+        downOf cut (set fewest₀ r fewest) (set anyOk₀ r anyOk) (set anyWeight₀ r anyWeight) (put (k .ungatedOk) r ungatedOk) (put (k .ungatedWeight) r ungatedWeight)
         count lightest hasUngated ungated near
 
     same-here :
@@ -120,8 +135,8 @@ module _ (n : ℕ) (ns ws os lo hi host fixed gates : List ℕ) (ready : Ready n
           fewest = getD-set-same fewest₀ r fewest 0 (omega arith);
           anyOk = getD-set-same anyOk₀ r anyOk false (omega arith);
           anyWeight = getD-set-same anyWeight₀ r anyWeight 0 (omega arith);
-          ungatedOk = getD-set-same ungatedOk₀ r ungatedOk false (omega arith);
-          ungatedWeight = getD-set-same ungatedWeight₀ r ungatedWeight 0 (omega arith);
+          ungatedOk = put-same (k .ungatedOk) r ungatedOk;
+          ungatedWeight = put-same (k .ungatedWeight) r ungatedWeight;
         }
 
     same-wire :
@@ -138,8 +153,8 @@ module _ (n : ℕ) (ns ws os lo hi host fixed gates : List ℕ) (ready : Ready n
           hi = refl;
           fewest = getD-set-same fewest₀ r fewest 0 (omega arith);
           anyWeight = getD-set-same anyWeight₀ r anyWeight 0 (omega arith);
-          ungatedOk = getD-set-same ungatedOk₀ r ungatedOk false (omega arith);
-          ungatedWeight = getD-set-same ungatedWeight₀ r ungatedWeight 0 (omega arith);
+          ungatedOk = put-same (k .ungatedOk) r ungatedOk;
+          ungatedWeight = put-same (k .ungatedWeight) r ungatedWeight;
           count = refl;
           lightest = refl;
           hasUngated = refl;
@@ -148,11 +163,8 @@ module _ (n : ℕ) (ns ws os lo hi host fixed gates : List ℕ) (ready : Ready n
         }
 
     turn :
-        Turn (workClusters n ns ws os lo hi host fixed gates) limit
-        (downOf cut₀ fewest₀ anyOk₀ anyWeight₀ ungatedOk₀ ungatedWeight₀ count₀ lightest₀ hasUngated₀ ungated₀ near₀)
-        new
-        r
-    unfolding new workClusters downOf
+        Turn (workClusters n ns ws os lo hi host fixed gates) limit old new r
+    unfolding old new workClusters downOf
     turn =
         record {
           marks = closes .others;
@@ -161,8 +173,8 @@ module _ (n : ℕ) (ns ws os lo hi host fixed gates : List ℕ) (ready : Ready n
                 fewest = getD-set-other fewest₀ r j fewest 0 ne;
                 anyOk = getD-set-other anyOk₀ r j anyOk false ne;
                 anyWeight = getD-set-other anyWeight₀ r j anyWeight 0 ne;
-                ungatedOk = getD-set-other ungatedOk₀ r j ungatedOk false ne;
-                ungatedWeight = getD-set-other ungatedWeight₀ r j ungatedWeight 0 ne;
+                ungatedOk = put-other (k .ungatedOk) r j ungatedOk ne;
+                ungatedWeight = put-other (k .ungatedWeight) r j ungatedWeight ne;
                 count = climbs .counts j ne;
                 lightest = climbs .lights j ne;
                 hasUngated = climbs .flags j ne;
@@ -175,29 +187,33 @@ module _ (n : ℕ) (ns ws os lo hi host fixed gates : List ℕ) (ready : Ready n
         }
 
     pub counted-turn :
-        Counted (workClusters n ns ws os lo hi host fixed gates) limit
-        (downOf cut₀ fewest₀ anyOk₀ anyWeight₀ ungatedOk₀ ungatedWeight₀ count₀ lightest₀ hasUngated₀ ungated₀ near₀)
-        (r + 1) →
-        Counted (workClusters n ns ws os lo hi host fixed gates) limit
-        (downOf cut (set fewest₀ r fewest) (set anyOk₀ r anyOk) (set anyWeight₀ r anyWeight) (set ungatedOk₀ r ungatedOk) (set ungatedWeight₀ r ungatedWeight)
-        count lightest hasUngated ungated near)
-        r
-    unfolding new
-    counted-turn k =
-        counted-step (workClusters n ns ws os lo hi host fixed gates) limit
-        (downOf cut₀ fewest₀ anyOk₀ anyWeight₀ ungatedOk₀ ungatedWeight₀ count₀ lightest₀ hasUngated₀ ungated₀ near₀)
-        new
-        (ready .sound)
-        r
-        turn
-        k
+        {fewests : List ℕ} {oks : List Bool} {weights : List ℕ} →
+        fewests ≡ set fewest₀ r fewest →
+        oks ≡ set anyOk₀ r anyOk →
+        weights ≡ set anyWeight₀ r anyWeight →
+        CountedFrom (workClusters n ns ws os lo hi host fixed gates) limit cut fewests oks weights count lightest hasUngated ungated near r
+    unfolding old new
+    counted-turn a b c =
+        rw (a, b, c)
+        (record {
+          ungatedOk = put (k .ungatedOk) r ungatedOk;
+          ungatedWeight = put (k .ungatedWeight) r ungatedWeight;
+          counted = counted-step (workClusters n ns ws os lo hi host fixed gates) limit old new (ready .sound) r turn (k .counted);
+        })
 
   -- before the first turn
-  pub counted-none : (limit : ℕ) (d : Down) → Counted (workClusters n ns ws os lo hi host fixed gates) limit d n
+  pub counted-none :
+      (limit : ℕ) (cut : List Bool) (fewest : List ℕ) (anyOk : List Bool) (anyWeight count lightest : List ℕ) (hasUngated : List Bool) (ungated near : List ℕ) →
+      CountedFrom (workClusters n ns ws os lo hi host fixed gates) limit cut fewest anyOk anyWeight count lightest hasUngated ungated near n
   unfolding workClusters
-  counted-none limit d =
+  counted-none limit cut fewest anyOk anyWeight count lightest hasUngated ungated near =
       record {
-        closed = λ r f p. absurd (native.Mathlib.Nat.lt-irrefl 0 (omega arith));
-        climbed = λ r f p y. absurd (native.Mathlib.Nat.lt-irrefl 0 (omega arith));
-        no-near = λ r f p y. absurd (native.Mathlib.Nat.lt-irrefl 0 (omega arith));
+        ungatedOk = λ r. false;
+        ungatedWeight = λ r. 0;
+        counted =
+            record {
+              closed = λ r f p. absurd (native.Mathlib.Nat.lt-irrefl 0 (omega arith));
+              climbed = λ r f p y. absurd (native.Mathlib.Nat.lt-irrefl 0 (omega arith));
+              no-near = λ r f p y. absurd (native.Mathlib.Nat.lt-irrefl 0 (omega arith));
+            };
       }

@@ -11,11 +11,11 @@ use lib.Dec.{ltb}
 use borrow.Author.Tests.{lt-ltb, le-ltb}
 use Rattle.laws.specs.Sum.{χ, sum}
 use Rattle.laws.specs.Sums.{sum-next, sum-next-≤}
-use Rattle.cuts.specs.Passes.{Climbed, Counted, total}
+use Rattle.cuts.specs.Passes.{Climbed, total}
 use Rattle.cuts.specs.Bounds.{total-≤}
 use Rattle.jumpers.specs.Arrays.{downOf}
 use Rattle.jumpers.specs.Climb.{wireOf, climbingOf}
-use Rattle.jumpers.specs.Count.{workClusters, Ready, ClimbsAt, rootSum}
+use Rattle.jumpers.specs.Count.{workClusters, Ready, ClimbsAt, CountedFrom, rootSum}
 
 module _
     (ns ws os lo hi : List ℕ) (r limit fewest anyWeight : ℕ) (ungatedOk : Bool) (ungatedWeight : ℕ)
@@ -95,25 +95,15 @@ unfolding rootSum sum
 roots-none lo fewest = refl
 
 -- the points found are few
-module _ (n : ℕ) (ns ws os lo hi host fixed gates : List ℕ) (ready : Ready n ns ws os lo hi host fixed gates) where
-  module _
-      (limit : ℕ) (cut : List Bool) (fewest : List ℕ) (anyOk : List Bool) (anyWeight : List ℕ) (ungatedOk : List Bool) (ungatedWeight count lightest : List ℕ)
-      (hasUngated : List Bool) (ungated near : List ℕ) where
-    pub roots-total :
-        rootSum n lo fewest
-        ≡ total (workClusters n ns ws os lo hi host fixed gates)
-        (downOf cut fewest anyOk anyWeight ungatedOk ungatedWeight count lightest hasUngated ungated near)
-    unfolding rootSum total workClusters downOf
-    roots-total = refl
-
-    pub roots-few :
-        Counted (workClusters n ns ws os lo hi host fixed gates) limit
-        (downOf cut fewest anyOk anyWeight ungatedOk ungatedWeight count lightest hasUngated ungated near)
-        0 →
-        rootSum n lo fewest ≤ 2 * n
-    unfolding rootSum total workClusters downOf
-    roots-few k =
-        total-≤ (workClusters n ns ws os lo hi host fixed gates) limit
-        (downOf cut fewest anyOk anyWeight ungatedOk ungatedWeight count lightest hasUngated ungated near)
-        (ready .sound)
-        k
+pub roots-few :
+    (n : ℕ) (ns ws os lo hi host fixed gates : List ℕ) →
+    Ready n ns ws os lo hi host fixed gates →
+    (limit : ℕ) (cut : List Bool) (fewest : List ℕ) (anyOk : List Bool) (anyWeight count lightest : List ℕ) (hasUngated : List Bool) (ungated near : List ℕ) →
+    CountedFrom (workClusters n ns ws os lo hi host fixed gates) limit cut fewest anyOk anyWeight count lightest hasUngated ungated near 0 →
+    rootSum n lo fewest ≤ 2 * n
+unfolding rootSum total workClusters downOf
+roots-few n ns ws os lo hi host fixed gates ready limit cut fewest anyOk anyWeight count lightest hasUngated ungated near k =
+    total-≤ (workClusters n ns ws os lo hi host fixed gates) limit
+    (downOf cut fewest anyOk anyWeight (k .ungatedOk) (k .ungatedWeight) count lightest hasUngated ungated near)
+    (ready .sound)
+    (k .counted)

@@ -40,7 +40,7 @@ two-points false true x y t = rw (eqb-sym y t) (same (eqb t y))
 two-points false false x y t = refl
 
 module _ (s : Stage) (root component : ℕ → ℕ) (limit : ℕ) (lo hi host fixed gates : List ℕ)
-    (cutAny : List Bool) (fewest : List ℕ) (anyOk : List Bool) (anyWeight : List ℕ) (ungatedOk : List Bool) (ungatedWeight count lightest : List ℕ)
+    (cutAny : List Bool) (fewest : List ℕ) (anyOk : List Bool) (anyWeight : List ℕ) (ungatedOk : ℕ → Bool) (ungatedWeight : ℕ → ℕ) (count lightest : List ℕ)
     (hasUngated : List Bool) (ungated near : List ℕ) (anyMode cutHigh : List Bool)
     (formed : Formed s) (fits : Fits s (clustersOf s lo hi host fixed gates) root component)
     (run : Run (clustersOf s lo hi host fixed gates) limit (downOf cutAny fewest anyOk anyWeight ungatedOk ungatedWeight count lightest hasUngated ungated near) (upOf anyMode cutHigh))

@@ -6,11 +6,9 @@ ghost use mathlib.Core.Path.{_≡_};
 ghost use mathlib.Core.Bool.{true, false};
 ghost use Prim.Native.Nat.{ℕ, _<_, _≤_, _^_};
 ghost use lib.ListN.{length, getD, set};
-ghost use Rattle.cuts.specs.Passes.{Counted};
-ghost use Rattle.jumpers.specs.Arrays.{downOf};
 ghost use Rattle.jumpers.specs.Close.{hung, HungAbove, Lengths, Room, Closes};
 ghost use Rattle.jumpers.specs.Climb.{Branch, Closable};
-ghost use Rattle.jumpers.specs.Count.{workClusters, Ready, ClimbsAt, rootSum, Reach, Hopeless};
+ghost use Rattle.jumpers.specs.Count.{workClusters, Ready, ClimbsAt, CountedFrom, rootSum, Reach, Hopeless};
 
 // Closes cluster r and stores what was found.
 fn close_at(
@@ -26,14 +24,12 @@ fn close_at(
     fewest: &mut [u64],
     any: &mut [bool],
     anyweight: &mut [u64],
-    ungated_ok: &mut [bool],
-    ungated_weight: &mut [u64],
     r: usize,
     n: usize,
     limit: u64,
 ) -> Closing
     requires { ⌜ Lengths n (now lo) (now host) (now count) (now lightest) (now ungatable) (now ungated) (now cut) ⌝ }
-    requires { ⌜ (r < n) × (n ≤ length (now fixed)) × (n ≤ length (now gates)) × (n ≤ length (now fewest)) × (n ≤ length (now any)) × (n ≤ length (now anyweight)) × (n ≤ length (now «ungated_ok»)) × (n ≤ length (now «ungated_weight»)) ⌝ }
+    requires { ⌜ (r < n) × (n ≤ length (now fixed)) × (n ≤ length (now gates)) × (n ≤ length (now fewest)) × (n ≤ length (now any)) × (n ≤ length (now anyweight)) ⌝ }
     requires { ⌜ Room n (now lo) (now host) (now count) (now lightest) (now ungatable) (now ungated) r (getD (now fixed) r 0) ⌝ }
     requires { ⌜ ((j : ℕ) → j < n → hung (now lo) (now host) r j ≡ true → getD (now cut) j false ≡ false) ⌝ }
     requires { ⌜ HungAbove (now lo) (now host) r ⌝ }
@@ -41,9 +37,7 @@ fn close_at(
         (x .fewest) (x .any) (x .anyweight) (x .ungated) (x .ungatedweight) (x .hopeless) ⌝ }
     ensures { λ x. ⌜ (now (fewest .exit) ≡ set (now (fewest .entry)) r (x .fewest))
         × (now (any .exit) ≡ set (now (any .entry)) r (x .any))
-        × (now (anyweight .exit) ≡ set (now (anyweight .entry)) r (x .anyweight))
-        × (now («ungated_ok» .exit) ≡ set (now («ungated_ok» .entry)) r (x .ungated))
-        × (now («ungated_weight» .exit) ≡ set (now («ungated_weight» .entry)) r (x .ungatedweight)) ⌝ }
+        × (now (anyweight .exit) ≡ set (now (anyweight .entry)) r (x .anyweight)) ⌝ }
 {
     let x = close(
         lo,
@@ -62,8 +56,6 @@ fn close_at(
     fewest[r] = x.fewest;
     any[r] = x.any;
     anyweight[r] = x.anyweight;
-    ungated_ok[r] = x.ungated;
-    ungated_weight[r] = x.ungatedweight;
     x
 }
 
@@ -139,8 +131,6 @@ pub fn count_pass(
     fewest: &mut [u64],
     any: &mut [bool],
     anyweight: &mut [u64],
-    ungated_ok: &mut [bool],
-    ungated_weight: &mut [u64],
     count: &mut [u64],
     lightest: &mut [u64],
     ungatable: &mut [bool],
@@ -150,13 +140,12 @@ pub fn count_pass(
     limit: u64,
 ) -> Count
     requires { ⌜ Ready n (now nodes) (now wires) (now obstacles) (now lo) (now hi) (now host) (now fixed) (now gates) ⌝ }
-    requires { ⌜ Reach n (now cut) (now fewest) (now any) (now anyweight) (now «ungated_ok») (now «ungated_weight») (now count) (now lightest) (now ungatable) (now ungated) (now near) ⌝ }
+    requires { ⌜ Reach n (now cut) (now fewest) (now any) (now anyweight) (now count) (now lightest) (now ungatable) (now ungated) (now near) ⌝ }
     requires { ⌜ ((j : ℕ) → j < n → getD (now cut) j false ≡ false) ⌝ }
     ensures { λ x. ⌜ (x .hopeless ≡ true → Hopeless n (now (fixed .entry)) (now (gates .entry)) limit) ⌝ }
     ensures { λ x. ⌜ (x .hopeless ≡ false →
-        Counted (workClusters n (now (nodes .entry)) (now (wires .entry)) (now (obstacles .entry)) (now (lo .entry)) (now (hi .entry)) (now (host .entry)) (now (fixed .entry)) (now (gates .entry))) limit
-        (downOf (now (cut .exit)) (now (fewest .exit)) (now (any .exit)) (now (anyweight .exit)) (now («ungated_ok» .exit)) (now («ungated_weight» .exit)) (now (count .exit)) (now (lightest .exit)) (now (ungatable .exit)) (now (ungated .exit)) (now (near .exit)))
-        0) ⌝ }
+        CountedFrom (workClusters n (now (nodes .entry)) (now (wires .entry)) (now (obstacles .entry)) (now (lo .entry)) (now (hi .entry)) (now (host .entry)) (now (fixed .entry)) (now (gates .entry))) limit
+        (now (cut .exit)) (now (fewest .exit)) (now (any .exit)) (now (anyweight .exit)) (now (count .exit)) (now (lightest .exit)) (now (ungatable .exit)) (now (ungated .exit)) (now (near .exit)) 0) ⌝ }
     ensures { λ x. ⌜ (x .hopeless ≡ false → x .points ≡ rootSum n (now (lo .entry)) (now (fewest .exit))) ⌝ }
 {
     let mut r = n;
@@ -175,8 +164,6 @@ pub fn count_pass(
             fewest,
             any,
             anyweight,
-            ungated_ok,
-            ungated_weight,
             r,
             n,
             limit,

@@ -38,8 +38,6 @@ fn run(
     fewest: &mut [u64],
     any: &mut [bool],
     anyweight: &mut [u64],
-    quiet: &mut [bool],
-    quietweight: &mut [u64],
     count: &mut [u64],
     lightest: &mut [u64],
     ungatable: &mut [bool],
@@ -49,7 +47,7 @@ fn run(
     high: &mut [bool],
 ) -> Count
     requires { ⌜ netRefusal (now nodes) (now wires) (now obstacles) ≡ none ⌝ }
-    requires { ⌜ (mostNodes ≤ length (now lo)) × (mostNodes ≤ length (now hi)) × (mostNodes ≤ length (now root)) × (mostNodes ≤ length (now host)) × (mostNodes ≤ length (now component)) × (mostNodes ≤ length (now sourced)) × (mostNodes ≤ length (now fixed)) × (mostNodes ≤ length (now gates)) × (mostNodes ≤ length (now cut)) × (mostNodes ≤ length (now fewest)) × (mostNodes ≤ length (now any)) × (mostNodes ≤ length (now anyweight)) × (mostNodes ≤ length (now quiet)) × (mostNodes ≤ length (now quietweight)) × (mostNodes ≤ length (now count)) × (mostNodes ≤ length (now lightest)) × (mostNodes ≤ length (now ungatable)) × (mostNodes ≤ length (now ungated)) × (mostNodes ≤ length (now near)) × (mostNodes ≤ length (now mode)) × (mostNodes ≤ length (now high)) ⌝ }
+    requires { ⌜ (mostNodes ≤ length (now lo)) × (mostNodes ≤ length (now hi)) × (mostNodes ≤ length (now root)) × (mostNodes ≤ length (now host)) × (mostNodes ≤ length (now component)) × (mostNodes ≤ length (now sourced)) × (mostNodes ≤ length (now fixed)) × (mostNodes ≤ length (now gates)) × (mostNodes ≤ length (now cut)) × (mostNodes ≤ length (now fewest)) × (mostNodes ≤ length (now any)) × (mostNodes ≤ length (now anyweight)) × (mostNodes ≤ length (now count)) × (mostNodes ≤ length (now lightest)) × (mostNodes ≤ length (now ungatable)) × (mostNodes ≤ length (now ungated)) × (mostNodes ≤ length (now near)) × (mostNodes ≤ length (now mode)) × (mostNodes ≤ length (now high)) ⌝ }
     requires { ⌜ ((j : ℕ) → getD (now cut) j false ≡ false) ⌝ }
     ensures { λ x. ⌜ Plans (now (nodes .entry)) (now (wires .entry)) (now (obstacles .entry)) stage limit (now (hi .exit)) (now (near .exit)) (now (high .exit)) (x .hopeless) (x .points) ⌝ }
 {
@@ -81,8 +79,6 @@ fn run(
         fewest,
         any,
         anyweight,
-        quiet,
-        quietweight,
         count,
         lightest,
         ungatable,
@@ -138,8 +134,6 @@ fn plan(
     let mut fewest = [0u64; MOST_NODES];
     let mut any = [false; MOST_NODES];
     let mut anyweight = [0u64; MOST_NODES];
-    let mut quiet = [false; MOST_NODES];
-    let mut quietweight = [0u64; MOST_NODES];
     let mut count = [0u64; MOST_NODES];
     let mut lightest = [0u64; MOST_NODES];
     let mut ungatable = [false; MOST_NODES];
@@ -163,8 +157,6 @@ fn plan(
         &mut fewest,
         &mut any,
         &mut anyweight,
-        &mut quiet,
-        &mut quietweight,
         &mut count,
         &mut lightest,
         &mut ungatable,

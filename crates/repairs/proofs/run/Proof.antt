@@ -12,9 +12,7 @@ use Rattle.net.specs.Net.{nodeCount}
 use Rattle.net.specs.Layout.{mostNodes}
 use Rattle.net.specs.Accepted.{NetRight, net-right}
 use Rattle.net.specs.Stage.{stageOf}
-use Rattle.cuts.specs.Passes.{Counted}
-use Rattle.jumpers.specs.Arrays.{downOf}
-use Rattle.jumpers.specs.Count.{workClusters, Ready, Hopeless, rootSum}
+use Rattle.jumpers.specs.Count.{workClusters, Ready, CountedFrom, Hopeless, rootSum}
 use Rattle.jumpers.specs.Choose.{Choosable}
 use Rattle.jumpers.specs.ScanFits.{wired-of}
 use Rattle.repairs.specs.RepairLaws.{ready-of, none-of, choosable-of, planned}
@@ -23,16 +21,16 @@ use Rattle.repairs.proofs.run.Tie as tie
 
 -- ---- the places after each pass
 abbrev start : tie.After-scan → tie.Start
-start c = c .before .before .before .before .before .before .before .before .before .before .before .before .before .before .before .before .before .before .before .before .before .before .before .before .before .before .before .before .before .before .before .before .before .before
+start c = c .before .before .before .before .before .before .before .before .before .before .before .before .before .before .before .before .before .before .before .before .before .before .before .before .before .before .before .before .before .before .before .before
 
 abbrev numbered : tie.After-scan → tie.After-node-count
 numbered c = c .before .before .before .before .before .before .before .before .before
 
 abbrev scanned : tie.After-count-pass → tie.After-scan
-scanned c = c .before .before .before .before .before .before .before .before .before .before .before .before .before .before .before .before .before .before .before .before .before .before .before .before .before .before .before .before .before .before .before .before .before
+scanned c = c .before .before .before .before .before .before .before .before .before .before .before .before .before .before .before .before .before .before .before .before .before .before .before .before .before .before .before .before .before .before .before
 
 abbrev counted : tie.Else1 → tie.After-count-pass
-counted c = c .before .before .before .before .before .before .before .before .before .before .before .before .before .before .before .before .before .before .before .before .before .before .before
+counted c = c .before .before .before .before .before .before .before .before .before .before .before .before .before .before .before .before .before .before .before
 
 abbrev chose : tie.After-choose → tie.Else1
 chose c = c .before .before .before .before .before .before .before .before .before .before .before
@@ -53,9 +51,6 @@ Host c = c .scan .last .1 .1 .1 .1 .1 .1 .1 .0
 abbrev Component : tie.After-scan → List ℕ
 Component c = c .scan .last .1 .1 .1 .1 .1 .1 .1 .1 .0
 
-abbrev Sourced : tie.After-scan → List Bool
-Sourced c = c .scan .last .1 .1 .1 .1 .1 .1 .1 .1 .1 .0
-
 abbrev Fixed : tie.After-scan → List ℕ
 Fixed c = c .scan .last .1 .1 .1 .1 .1 .1 .1 .1 .1 .1 .0
 
@@ -74,26 +69,20 @@ Any c = c .count-pass .last .1 .1 .1 .1 .1 .1 .1 .1 .1 .1 .0
 abbrev Anyweight : tie.After-count-pass → List ℕ
 Anyweight c = c .count-pass .last .1 .1 .1 .1 .1 .1 .1 .1 .1 .1 .1 .0
 
-abbrev Quiet : tie.After-count-pass → List Bool
-Quiet c = c .count-pass .last .1 .1 .1 .1 .1 .1 .1 .1 .1 .1 .1 .1 .0
-
-abbrev Quietweight : tie.After-count-pass → List ℕ
-Quietweight c = c .count-pass .last .1 .1 .1 .1 .1 .1 .1 .1 .1 .1 .1 .1 .1 .0
-
 abbrev Count : tie.After-count-pass → List ℕ
-Count c = c .count-pass .last .1 .1 .1 .1 .1 .1 .1 .1 .1 .1 .1 .1 .1 .1 .0
+Count c = c .count-pass .last .1 .1 .1 .1 .1 .1 .1 .1 .1 .1 .1 .1 .0
 
 abbrev Lightest : tie.After-count-pass → List ℕ
-Lightest c = c .count-pass .last .1 .1 .1 .1 .1 .1 .1 .1 .1 .1 .1 .1 .1 .1 .1 .0
+Lightest c = c .count-pass .last .1 .1 .1 .1 .1 .1 .1 .1 .1 .1 .1 .1 .1 .0
 
 abbrev Ungatable : tie.After-count-pass → List Bool
-Ungatable c = c .count-pass .last .1 .1 .1 .1 .1 .1 .1 .1 .1 .1 .1 .1 .1 .1 .1 .1 .0
+Ungatable c = c .count-pass .last .1 .1 .1 .1 .1 .1 .1 .1 .1 .1 .1 .1 .1 .1 .0
 
 abbrev Ungated : tie.After-count-pass → List ℕ
-Ungated c = c .count-pass .last .1 .1 .1 .1 .1 .1 .1 .1 .1 .1 .1 .1 .1 .1 .1 .1 .1 .0
+Ungated c = c .count-pass .last .1 .1 .1 .1 .1 .1 .1 .1 .1 .1 .1 .1 .1 .1 .1 .0
 
 abbrev Near : tie.After-count-pass → List ℕ
-Near c = c .count-pass .last .1 .1 .1 .1 .1 .1 .1 .1 .1 .1 .1 .1 .1 .1 .1 .1 .1 .1 .0
+Near c = c .count-pass .last .1 .1 .1 .1 .1 .1 .1 .1 .1 .1 .1 .1 .1 .1 .1 .1 .0
 
 -- ---- what holds of them
 right : (s : tie.Start) → NetRight (now (s .args .nodes)) (now (s .args .wires)) (now (s .args .obstacles))
@@ -112,17 +101,8 @@ lo-long c = omega (arith, c .scan .kept .1 .1 .1 .1 .0, few (start c), start c .
 hi-long : (c : tie.After-scan) → nodeCount (now (start c .args .nodes)) ≤ length (Hi c)
 hi-long c = omega (arith, c .scan .kept .1 .1 .1 .1 .1 .0, few (start c), start c .pre .1 .0 .1)
 
-root-long : (c : tie.After-scan) → nodeCount (now (start c .args .nodes)) ≤ length (Root c)
-root-long c = omega (arith, c .scan .kept .1 .1 .1 .1 .1 .1 .0, few (start c), start c .pre .1 .0 .2)
-
 host-long : (c : tie.After-scan) → nodeCount (now (start c .args .nodes)) ≤ length (Host c)
 host-long c = omega (arith, c .scan .kept .1 .1 .1 .1 .1 .1 .1 .0, few (start c), start c .pre .1 .0 .3)
-
-component-long : (c : tie.After-scan) → nodeCount (now (start c .args .nodes)) ≤ length (Component c)
-component-long c = omega (arith, c .scan .kept .1 .1 .1 .1 .1 .1 .1 .1 .0, few (start c), start c .pre .1 .0 .4)
-
-sourced-long : (c : tie.After-scan) → nodeCount (now (start c .args .nodes)) ≤ length (Sourced c)
-sourced-long c = omega (arith, c .scan .kept .1 .1 .1 .1 .1 .1 .1 .1 .1 .0, few (start c), start c .pre .1 .0 .5)
 
 fixed-long : (c : tie.After-scan) → nodeCount (now (start c .args .nodes)) ≤ length (Fixed c)
 fixed-long c = omega (arith, c .scan .kept .1 .1 .1 .1 .1 .1 .1 .1 .1 .1 .0, few (start c), start c .pre .1 .0 .6)
@@ -133,118 +113,94 @@ gates-long c = omega (arith, c .scan .kept .1 .1 .1 .1 .1 .1 .1 .1 .1 .1 .1 .0, 
 cut-long : (c : tie.After-count-pass) → nodeCount (now (start (scanned c) .args .nodes)) ≤ length (Cut c)
 cut-long c = omega (arith, c .count-pass .kept .1 .1 .1 .1 .1 .1 .1 .1 .0, few (start (scanned c)), start (scanned c) .pre .1 .0 .8)
 
-fewest-long : (c : tie.After-count-pass) → nodeCount (now (start (scanned c) .args .nodes)) ≤ length (Fewest c)
-fewest-long c = omega (arith, c .count-pass .kept .1 .1 .1 .1 .1 .1 .1 .1 .1 .0, few (start (scanned c)), start (scanned c) .pre .1 .0 .9)
-
 any-long : (c : tie.After-count-pass) → nodeCount (now (start (scanned c) .args .nodes)) ≤ length (Any c)
 any-long c = omega (arith, c .count-pass .kept .1 .1 .1 .1 .1 .1 .1 .1 .1 .1 .0, few (start (scanned c)), start (scanned c) .pre .1 .0 .10)
 
 anyweight-long : (c : tie.After-count-pass) → nodeCount (now (start (scanned c) .args .nodes)) ≤ length (Anyweight c)
 anyweight-long c = omega (arith, c .count-pass .kept .1 .1 .1 .1 .1 .1 .1 .1 .1 .1 .1 .0, few (start (scanned c)), start (scanned c) .pre .1 .0 .11)
 
-quiet-long : (c : tie.After-count-pass) → nodeCount (now (start (scanned c) .args .nodes)) ≤ length (Quiet c)
-quiet-long c = omega (arith, c .count-pass .kept .1 .1 .1 .1 .1 .1 .1 .1 .1 .1 .1 .1 .0, few (start (scanned c)), start (scanned c) .pre .1 .0 .12)
-
-quietweight-long : (c : tie.After-count-pass) → nodeCount (now (start (scanned c) .args .nodes)) ≤ length (Quietweight c)
-quietweight-long c = omega (arith, c .count-pass .kept .1 .1 .1 .1 .1 .1 .1 .1 .1 .1 .1 .1 .1 .0, few (start (scanned c)), start (scanned c) .pre .1 .0 .13)
-
-count-long : (c : tie.After-count-pass) → nodeCount (now (start (scanned c) .args .nodes)) ≤ length (Count c)
-count-long c = omega (arith, c .count-pass .kept .1 .1 .1 .1 .1 .1 .1 .1 .1 .1 .1 .1 .1 .1 .0, few (start (scanned c)), start (scanned c) .pre .1 .0 .14)
-
-lightest-long : (c : tie.After-count-pass) → nodeCount (now (start (scanned c) .args .nodes)) ≤ length (Lightest c)
-lightest-long c = omega (arith, c .count-pass .kept .1 .1 .1 .1 .1 .1 .1 .1 .1 .1 .1 .1 .1 .1 .1 .0, few (start (scanned c)), start (scanned c) .pre .1 .0 .15)
-
 ungatable-long : (c : tie.After-count-pass) → nodeCount (now (start (scanned c) .args .nodes)) ≤ length (Ungatable c)
-ungatable-long c = omega (arith, c .count-pass .kept .1 .1 .1 .1 .1 .1 .1 .1 .1 .1 .1 .1 .1 .1 .1 .1 .0, few (start (scanned c)), start (scanned c) .pre .1 .0 .16)
-
-ungated-long : (c : tie.After-count-pass) → nodeCount (now (start (scanned c) .args .nodes)) ≤ length (Ungated c)
-ungated-long c = omega (arith, c .count-pass .kept .1 .1 .1 .1 .1 .1 .1 .1 .1 .1 .1 .1 .1 .1 .1 .1 .1 .0, few (start (scanned c)), start (scanned c) .pre .1 .0 .17)
+ungatable-long c = omega (arith, c .count-pass .kept .1 .1 .1 .1 .1 .1 .1 .1 .1 .1 .1 .1 .1 .1 .0, few (start (scanned c)), start (scanned c) .pre .1 .0 .14)
 
 near-long : (c : tie.After-count-pass) → nodeCount (now (start (scanned c) .args .nodes)) ≤ length (Near c)
-near-long c = omega (arith, c .count-pass .kept .1 .1 .1 .1 .1 .1 .1 .1 .1 .1 .1 .1 .1 .1 .1 .1 .1 .1 .0, few (start (scanned c)), start (scanned c) .pre .1 .0 .18)
+near-long c = omega (arith, c .count-pass .kept .1 .1 .1 .1 .1 .1 .1 .1 .1 .1 .1 .1 .1 .1 .1 .1 .0, few (start (scanned c)), start (scanned c) .pre .1 .0 .16)
 
 node-count-requires : tie.Need-node-count-requires
 node-count-requires c κs = tt
 
 scan-requires : tie.Need-scan-requires
 scan-requires c κs =
-    let s : tie.Start = c .before .before .before .before .before .before .before .before .before .before .before .before .before .before .before .before .before .before .before .before .before .before .before .before .before .before .before .before .before .before .before .before .before in
+    let s : tie.Start = c .before .before .before .before .before .before .before .before .before .before .before .before .before .before .before .before .before .before .before .before .before .before .before .before .before .before .before .before .before .before .before in
     (wired-of (right s), (omega (arith, few s, s .pre .1 .0 .0), omega (arith, few s, s .pre .1 .0 .1), omega (arith, few s, s .pre .1 .0 .2), omega (arith, few s, s .pre .1 .0 .3), omega (arith, few s, s .pre .1 .0 .4), omega (arith, few s, s .pre .1 .0 .5), omega (arith, few s, s .pre .1 .0 .6), omega (arith, few s, s .pre .1 .0 .7)))
 
 count-pass-requires : tie.Need-count-pass-requires
 count-pass-requires c κs =
-    let t : tie.After-scan = c .before .before .before .before .before .before .before .before .before .before .before .before .before .before .before .before .before .before .before .before .before .before .before .before .before .before .before .before .before .before .before .before in
+    let t : tie.After-scan = c .before .before .before .before .before .before .before .before .before .before .before .before .before .before .before .before .before .before .before .before .before .before .before .before .before .before .before .before .before .before in
     let s = start t in
     let a = s .args in (
       subst (λ (m : ℕ). Ready m (now (a .nodes)) (now (a .wires)) (now (a .obstacles)) (Lo t) (Hi t) (Host t) (Fixed t) (Gates t)) (sym (nodes-are t))
           (ready-of (now (a .nodes)) (now (a .wires)) (now (a .obstacles)) (a .stage) (right s) (Lo t) (Hi t) (Host t) (Fixed t) (Gates t) (λ i. getD (Root t) i 0) (λ i. getD (Component t) i 0)
           (t .scan .ensures .0) (t .scan .ensures .1 .0) (lo-long t) (hi-long t) (host-long t) (fixed-long t) (gates-long t)),
       (
-        record { cuts = omega (arith, nodes-are t, few s, s .pre .1 .0 .8); fewests = omega (arith, nodes-are t, few s, s .pre .1 .0 .9); anys = omega (arith, nodes-are t, few s, s .pre .1 .0 .10); any-weights = omega (arith, nodes-are t, few s, s .pre .1 .0 .11); ungated-oks = omega (arith, nodes-are t, few s, s .pre .1 .0 .12); ungated-weights = omega (arith, nodes-are t, few s, s .pre .1 .0 .13); counts = omega (arith, nodes-are t, few s, s .pre .1 .0 .14); lights = omega (arith, nodes-are t, few s, s .pre .1 .0 .15); flags = omega (arith, nodes-are t, few s, s .pre .1 .0 .16); ungateds = omega (arith, nodes-are t, few s, s .pre .1 .0 .17); nears = omega (arith, nodes-are t, few s, s .pre .1 .0 .18) },
+        record { cuts = omega (arith, nodes-are t, few s, s .pre .1 .0 .8); fewests = omega (arith, nodes-are t, few s, s .pre .1 .0 .9); anys = omega (arith, nodes-are t, few s, s .pre .1 .0 .10); any-weights = omega (arith, nodes-are t, few s, s .pre .1 .0 .11); counts = omega (arith, nodes-are t, few s, s .pre .1 .0 .12); lights = omega (arith, nodes-are t, few s, s .pre .1 .0 .13); flags = omega (arith, nodes-are t, few s, s .pre .1 .0 .14); ungateds = omega (arith, nodes-are t, few s, s .pre .1 .0 .15); nears = omega (arith, nodes-are t, few s, s .pre .1 .0 .16) },
         λ j p. s .pre .1 .1 j,
       ),
     )
 
 same-length : tie.Need-same-length
-same-length c = let t : tie.After-count-pass = c .before .before .before .before .before .before .before .before .before .before .before .before .before .before .before .before .before .before .before .before .before .before .before in scanned t .scan .kept .1 .1 .1 .1 .0
+same-length c = let t : tie.After-count-pass = c .before .before .before .before .before .before .before .before .before .before .before .before .before .before .before .before .before .before .before in scanned t .scan .kept .1 .1 .1 .1 .0
 
 same-length-2 : tie.Need-same-length-2
-same-length-2 c = let t : tie.After-count-pass = c .before .before .before .before .before .before .before .before .before .before .before .before .before .before .before .before .before .before .before .before .before .before .before in scanned t .scan .kept .1 .1 .1 .1 .1 .0
+same-length-2 c = let t : tie.After-count-pass = c .before .before .before .before .before .before .before .before .before .before .before .before .before .before .before .before .before .before .before in scanned t .scan .kept .1 .1 .1 .1 .1 .0
 
 same-length-3 : tie.Need-same-length-3
-same-length-3 c = let t : tie.After-count-pass = c .before .before .before .before .before .before .before .before .before .before .before .before .before .before .before .before .before .before .before .before .before .before .before in scanned t .scan .kept .1 .1 .1 .1 .1 .1 .0
+same-length-3 c = let t : tie.After-count-pass = c .before .before .before .before .before .before .before .before .before .before .before .before .before .before .before .before .before .before .before in scanned t .scan .kept .1 .1 .1 .1 .1 .1 .0
 
 same-length-4 : tie.Need-same-length-4
-same-length-4 c = let t : tie.After-count-pass = c .before .before .before .before .before .before .before .before .before .before .before .before .before .before .before .before .before .before .before .before .before .before .before in scanned t .scan .kept .1 .1 .1 .1 .1 .1 .1 .0
+same-length-4 c = let t : tie.After-count-pass = c .before .before .before .before .before .before .before .before .before .before .before .before .before .before .before .before .before .before .before in scanned t .scan .kept .1 .1 .1 .1 .1 .1 .1 .0
 
 same-length-5 : tie.Need-same-length-5
-same-length-5 c = let t : tie.After-count-pass = c .before .before .before .before .before .before .before .before .before .before .before .before .before .before .before .before .before .before .before .before .before .before .before in scanned t .scan .kept .1 .1 .1 .1 .1 .1 .1 .1 .0
+same-length-5 c = let t : tie.After-count-pass = c .before .before .before .before .before .before .before .before .before .before .before .before .before .before .before .before .before .before .before in scanned t .scan .kept .1 .1 .1 .1 .1 .1 .1 .1 .0
 
 same-length-6 : tie.Need-same-length-6
-same-length-6 c = let t : tie.After-count-pass = c .before .before .before .before .before .before .before .before .before .before .before .before .before .before .before .before .before .before .before .before .before .before .before in scanned t .scan .kept .1 .1 .1 .1 .1 .1 .1 .1 .1 .0
+same-length-6 c = let t : tie.After-count-pass = c .before .before .before .before .before .before .before .before .before .before .before .before .before .before .before .before .before .before .before in scanned t .scan .kept .1 .1 .1 .1 .1 .1 .1 .1 .1 .0
 
 same-length-7 : tie.Need-same-length-7
-same-length-7 c = let t : tie.After-count-pass = c .before .before .before .before .before .before .before .before .before .before .before .before .before .before .before .before .before .before .before .before .before .before .before in scanned t .scan .kept .1 .1 .1 .1 .1 .1 .1 .1 .1 .1 .0
+same-length-7 c = let t : tie.After-count-pass = c .before .before .before .before .before .before .before .before .before .before .before .before .before .before .before .before .before .before .before in scanned t .scan .kept .1 .1 .1 .1 .1 .1 .1 .1 .1 .1 .0
 
 same-length-8 : tie.Need-same-length-8
-same-length-8 c = let t : tie.After-count-pass = c .before .before .before .before .before .before .before .before .before .before .before .before .before .before .before .before .before .before .before .before .before .before .before in scanned t .scan .kept .1 .1 .1 .1 .1 .1 .1 .1 .1 .1 .1 .0
+same-length-8 c = let t : tie.After-count-pass = c .before .before .before .before .before .before .before .before .before .before .before .before .before .before .before .before .before .before .before in scanned t .scan .kept .1 .1 .1 .1 .1 .1 .1 .1 .1 .1 .1 .0
 
 same-length-9 : tie.Need-same-length-9
-same-length-9 c = let t : tie.After-count-pass = c .before .before .before .before .before .before .before .before .before .before .before .before .before .before .before .before .before .before .before .before .before .before .before in t .count-pass .kept .1 .1 .1 .1 .1 .1 .1 .1 .0
+same-length-9 c = let t : tie.After-count-pass = c .before .before .before .before .before .before .before .before .before .before .before .before .before .before .before .before .before .before .before in t .count-pass .kept .1 .1 .1 .1 .1 .1 .1 .1 .0
 
 same-length-10 : tie.Need-same-length-10
-same-length-10 c = let t : tie.After-count-pass = c .before .before .before .before .before .before .before .before .before .before .before .before .before .before .before .before .before .before .before .before .before .before .before in t .count-pass .kept .1 .1 .1 .1 .1 .1 .1 .1 .1 .0
+same-length-10 c = let t : tie.After-count-pass = c .before .before .before .before .before .before .before .before .before .before .before .before .before .before .before .before .before .before .before in t .count-pass .kept .1 .1 .1 .1 .1 .1 .1 .1 .1 .0
 
 same-length-11 : tie.Need-same-length-11
-same-length-11 c = let t : tie.After-count-pass = c .before .before .before .before .before .before .before .before .before .before .before .before .before .before .before .before .before .before .before .before .before .before .before in t .count-pass .kept .1 .1 .1 .1 .1 .1 .1 .1 .1 .1 .0
+same-length-11 c = let t : tie.After-count-pass = c .before .before .before .before .before .before .before .before .before .before .before .before .before .before .before .before .before .before .before in t .count-pass .kept .1 .1 .1 .1 .1 .1 .1 .1 .1 .1 .0
 
 same-length-12 : tie.Need-same-length-12
-same-length-12 c = let t : tie.After-count-pass = c .before .before .before .before .before .before .before .before .before .before .before .before .before .before .before .before .before .before .before .before .before .before .before in t .count-pass .kept .1 .1 .1 .1 .1 .1 .1 .1 .1 .1 .1 .0
+same-length-12 c = let t : tie.After-count-pass = c .before .before .before .before .before .before .before .before .before .before .before .before .before .before .before .before .before .before .before in t .count-pass .kept .1 .1 .1 .1 .1 .1 .1 .1 .1 .1 .1 .0
 
 same-length-13 : tie.Need-same-length-13
-same-length-13 c = let t : tie.After-count-pass = c .before .before .before .before .before .before .before .before .before .before .before .before .before .before .before .before .before .before .before .before .before .before .before in t .count-pass .kept .1 .1 .1 .1 .1 .1 .1 .1 .1 .1 .1 .1 .0
+same-length-13 c = let t : tie.After-count-pass = c .before .before .before .before .before .before .before .before .before .before .before .before .before .before .before .before .before .before .before in t .count-pass .kept .1 .1 .1 .1 .1 .1 .1 .1 .1 .1 .1 .1 .0
 
 same-length-14 : tie.Need-same-length-14
-same-length-14 c = let t : tie.After-count-pass = c .before .before .before .before .before .before .before .before .before .before .before .before .before .before .before .before .before .before .before .before .before .before .before in t .count-pass .kept .1 .1 .1 .1 .1 .1 .1 .1 .1 .1 .1 .1 .1 .0
+same-length-14 c = let t : tie.After-count-pass = c .before .before .before .before .before .before .before .before .before .before .before .before .before .before .before .before .before .before .before in t .count-pass .kept .1 .1 .1 .1 .1 .1 .1 .1 .1 .1 .1 .1 .1 .0
 
 same-length-15 : tie.Need-same-length-15
-same-length-15 c = let t : tie.After-count-pass = c .before .before .before .before .before .before .before .before .before .before .before .before .before .before .before .before .before .before .before .before .before .before .before in t .count-pass .kept .1 .1 .1 .1 .1 .1 .1 .1 .1 .1 .1 .1 .1 .1 .0
+same-length-15 c = let t : tie.After-count-pass = c .before .before .before .before .before .before .before .before .before .before .before .before .before .before .before .before .before .before .before in t .count-pass .kept .1 .1 .1 .1 .1 .1 .1 .1 .1 .1 .1 .1 .1 .1 .0
 
 same-length-16 : tie.Need-same-length-16
-same-length-16 c = let t : tie.After-count-pass = c .before .before .before .before .before .before .before .before .before .before .before .before .before .before .before .before .before .before .before .before .before .before .before in t .count-pass .kept .1 .1 .1 .1 .1 .1 .1 .1 .1 .1 .1 .1 .1 .1 .1 .0
+same-length-16 c = let t : tie.After-count-pass = c .before .before .before .before .before .before .before .before .before .before .before .before .before .before .before .before .before .before .before in t .count-pass .kept .1 .1 .1 .1 .1 .1 .1 .1 .1 .1 .1 .1 .1 .1 .1 .0
 
 same-length-17 : tie.Need-same-length-17
-same-length-17 c = let t : tie.After-count-pass = c .before .before .before .before .before .before .before .before .before .before .before .before .before .before .before .before .before .before .before .before .before .before .before in t .count-pass .kept .1 .1 .1 .1 .1 .1 .1 .1 .1 .1 .1 .1 .1 .1 .1 .1 .0
-
-same-length-18 : tie.Need-same-length-18
-same-length-18 c = let t : tie.After-count-pass = c .before .before .before .before .before .before .before .before .before .before .before .before .before .before .before .before .before .before .before .before .before .before .before in t .count-pass .kept .1 .1 .1 .1 .1 .1 .1 .1 .1 .1 .1 .1 .1 .1 .1 .1 .1 .0
-
-same-length-19 : tie.Need-same-length-19
-same-length-19 c = let t : tie.After-count-pass = c .before .before .before .before .before .before .before .before .before .before .before .before .before .before .before .before .before .before .before .before .before .before .before in t .count-pass .kept .1 .1 .1 .1 .1 .1 .1 .1 .1 .1 .1 .1 .1 .1 .1 .1 .1 .1 .0
+same-length-17 c = let t : tie.After-count-pass = c .before .before .before .before .before .before .before .before .before .before .before .before .before .before .before .before .before .before .before in t .count-pass .kept .1 .1 .1 .1 .1 .1 .1 .1 .1 .1 .1 .1 .1 .1 .1 .1 .0
 
 returns : tie.Need-returns
 returns c =
-    let d : tie.After-count-pass = c .before .before .before .before .before .before .before .before .before .before .before .before .before .before .before .before .before .before .before .before .before .before .before in
+    let d : tie.After-count-pass = c .before .before .before .before .before .before .before .before .before .before .before .before .before .before .before .before .before .before .before in
     let t = scanned d in
     let s = start t in
     let a = s .args in
@@ -257,9 +213,9 @@ returns c =
 
 -- the pass down at the clusters of the work arrays
 worked : (e : tie.Else1) →
-    Counted (workClusters (nodeCount (now (start (scanned (counted e)) .args .nodes))) (now (start (scanned (counted e)) .args .nodes)) (now (start (scanned (counted e)) .args .wires)) (now (start (scanned (counted e)) .args .obstacles)) (Lo (scanned (counted e))) (Hi (scanned (counted e))) (Host (scanned (counted e))) (Fixed (scanned (counted e))) (Gates (scanned (counted e))))
+    CountedFrom (workClusters (nodeCount (now (start (scanned (counted e)) .args .nodes))) (now (start (scanned (counted e)) .args .nodes)) (now (start (scanned (counted e)) .args .wires)) (now (start (scanned (counted e)) .args .obstacles)) (Lo (scanned (counted e))) (Hi (scanned (counted e))) (Host (scanned (counted e))) (Fixed (scanned (counted e))) (Gates (scanned (counted e))))
     (start (scanned (counted e)) .args .limit)
-    (downOf (Cut (counted e)) (Fewest (counted e)) (Any (counted e)) (Anyweight (counted e)) (Quiet (counted e)) (Quietweight (counted e)) (Count (counted e)) (Lightest (counted e)) (Ungatable (counted e)) (Ungated (counted e)) (Near (counted e)))
+    (Cut (counted e)) (Fewest (counted e)) (Any (counted e)) (Anyweight (counted e)) (Count (counted e)) (Lightest (counted e)) (Ungatable (counted e)) (Ungated (counted e)) (Near (counted e))
     0
 worked e =
     let d = counted e in
@@ -267,8 +223,8 @@ worked e =
     let a = start t .args in
     subst
     (λ (m : ℕ).
-    Counted (workClusters m (now (a .nodes)) (now (a .wires)) (now (a .obstacles)) (Lo t) (Hi t) (Host t) (Fixed t) (Gates t)) (a .limit)
-    (downOf (Cut d) (Fewest d) (Any d) (Anyweight d) (Quiet d) (Quietweight d) (Count d) (Lightest d) (Ungatable d) (Ungated d) (Near d)) 0)
+    CountedFrom (workClusters m (now (a .nodes)) (now (a .wires)) (now (a .obstacles)) (Lo t) (Hi t) (Host t) (Fixed t) (Gates t)) (a .limit)
+    (Cut d) (Fewest d) (Any d) (Anyweight d) (Count d) (Lightest d) (Ungatable d) (Ungated d) (Near d) 0)
     (nodes-are t)
     (d .count-pass .ensures .1 .0 (e .if1 .left))
 
@@ -279,75 +235,69 @@ choose-requires c κs =
     let t = scanned d in
     let s = start t in
     let a = s .args in (
-      (omega (arith, nodes-are t, lo-long t), omega (arith, nodes-are t, hi-long t), omega (arith, nodes-are t, host-long t), omega (arith, nodes-are t, cut-long d), omega (arith, nodes-are t, any-long d), omega (arith, nodes-are t, anyweight-long d), omega (arith, nodes-are t, ungatable-long d), omega (arith, nodes-are t, near-long d), omega (arith, nodes-are t, few s, s .pre .1 .0 .19), omega (arith, nodes-are t, few s, s .pre .1 .0 .20)),
+      (omega (arith, nodes-are t, lo-long t), omega (arith, nodes-are t, hi-long t), omega (arith, nodes-are t, host-long t), omega (arith, nodes-are t, cut-long d), omega (arith, nodes-are t, any-long d), omega (arith, nodes-are t, anyweight-long d), omega (arith, nodes-are t, ungatable-long d), omega (arith, nodes-are t, near-long d), omega (arith, nodes-are t, few s, s .pre .1 .0 .17), omega (arith, nodes-are t, few s, s .pre .1 .0 .18)),
       subst (λ (m : ℕ). Choosable m (now (a .wires)) (Lo t) (Hi t) (Host t) (Anyweight d)) (sym (nodes-are t))
           (choosable-of (now (a .nodes)) (now (a .wires)) (now (a .obstacles)) (a .stage) (right s) (Lo t) (Hi t) (Host t) (Fixed t) (Gates t) (λ i. getD (Root t) i 0) (λ i. getD (Component t) i 0)
           (t .scan .ensures .0) (a .limit) (t .scan .ensures .1 .0) (t .scan .ensures .1 .1)
-          (Cut d) (Fewest d) (Any d) (Anyweight d) (Quiet d) (Quietweight d) (Count d) (Lightest d) (Ungatable d) (Ungated d) (Near d) (worked e)),
+          (Cut d) (Fewest d) (Any d) (Anyweight d) (Count d) (Lightest d) (Ungatable d) (Ungated d) (Near d) (worked e)),
     )
 
+same-length-18 : tie.Need-same-length-18
+same-length-18 c = let t : tie.After-choose = c .before .before .before .before in scanned (counted (chose t)) .scan .kept .1 .1 .1 .1 .0
+
+same-length-19 : tie.Need-same-length-19
+same-length-19 c = let t : tie.After-choose = c .before .before .before .before in scanned (counted (chose t)) .scan .kept .1 .1 .1 .1 .1 .0
+
 same-length-20 : tie.Need-same-length-20
-same-length-20 c = let t : tie.After-choose = c .before .before .before .before in scanned (counted (chose t)) .scan .kept .1 .1 .1 .1 .0
+same-length-20 c = let t : tie.After-choose = c .before .before .before .before in scanned (counted (chose t)) .scan .kept .1 .1 .1 .1 .1 .1 .0
 
 same-length-21 : tie.Need-same-length-21
-same-length-21 c = let t : tie.After-choose = c .before .before .before .before in scanned (counted (chose t)) .scan .kept .1 .1 .1 .1 .1 .0
+same-length-21 c = let t : tie.After-choose = c .before .before .before .before in scanned (counted (chose t)) .scan .kept .1 .1 .1 .1 .1 .1 .1 .0
 
 same-length-22 : tie.Need-same-length-22
-same-length-22 c = let t : tie.After-choose = c .before .before .before .before in scanned (counted (chose t)) .scan .kept .1 .1 .1 .1 .1 .1 .0
+same-length-22 c = let t : tie.After-choose = c .before .before .before .before in scanned (counted (chose t)) .scan .kept .1 .1 .1 .1 .1 .1 .1 .1 .0
 
 same-length-23 : tie.Need-same-length-23
-same-length-23 c = let t : tie.After-choose = c .before .before .before .before in scanned (counted (chose t)) .scan .kept .1 .1 .1 .1 .1 .1 .1 .0
+same-length-23 c = let t : tie.After-choose = c .before .before .before .before in scanned (counted (chose t)) .scan .kept .1 .1 .1 .1 .1 .1 .1 .1 .1 .0
 
 same-length-24 : tie.Need-same-length-24
-same-length-24 c = let t : tie.After-choose = c .before .before .before .before in scanned (counted (chose t)) .scan .kept .1 .1 .1 .1 .1 .1 .1 .1 .0
+same-length-24 c = let t : tie.After-choose = c .before .before .before .before in scanned (counted (chose t)) .scan .kept .1 .1 .1 .1 .1 .1 .1 .1 .1 .1 .0
 
 same-length-25 : tie.Need-same-length-25
-same-length-25 c = let t : tie.After-choose = c .before .before .before .before in scanned (counted (chose t)) .scan .kept .1 .1 .1 .1 .1 .1 .1 .1 .1 .0
+same-length-25 c = let t : tie.After-choose = c .before .before .before .before in scanned (counted (chose t)) .scan .kept .1 .1 .1 .1 .1 .1 .1 .1 .1 .1 .1 .0
 
 same-length-26 : tie.Need-same-length-26
-same-length-26 c = let t : tie.After-choose = c .before .before .before .before in scanned (counted (chose t)) .scan .kept .1 .1 .1 .1 .1 .1 .1 .1 .1 .1 .0
+same-length-26 c = let t : tie.After-choose = c .before .before .before .before in counted (chose t) .count-pass .kept .1 .1 .1 .1 .1 .1 .1 .1 .0
 
 same-length-27 : tie.Need-same-length-27
-same-length-27 c = let t : tie.After-choose = c .before .before .before .before in scanned (counted (chose t)) .scan .kept .1 .1 .1 .1 .1 .1 .1 .1 .1 .1 .1 .0
+same-length-27 c = let t : tie.After-choose = c .before .before .before .before in counted (chose t) .count-pass .kept .1 .1 .1 .1 .1 .1 .1 .1 .1 .0
 
 same-length-28 : tie.Need-same-length-28
-same-length-28 c = let t : tie.After-choose = c .before .before .before .before in counted (chose t) .count-pass .kept .1 .1 .1 .1 .1 .1 .1 .1 .0
+same-length-28 c = let t : tie.After-choose = c .before .before .before .before in counted (chose t) .count-pass .kept .1 .1 .1 .1 .1 .1 .1 .1 .1 .1 .0
 
 same-length-29 : tie.Need-same-length-29
-same-length-29 c = let t : tie.After-choose = c .before .before .before .before in counted (chose t) .count-pass .kept .1 .1 .1 .1 .1 .1 .1 .1 .1 .0
+same-length-29 c = let t : tie.After-choose = c .before .before .before .before in counted (chose t) .count-pass .kept .1 .1 .1 .1 .1 .1 .1 .1 .1 .1 .1 .0
 
 same-length-30 : tie.Need-same-length-30
-same-length-30 c = let t : tie.After-choose = c .before .before .before .before in counted (chose t) .count-pass .kept .1 .1 .1 .1 .1 .1 .1 .1 .1 .1 .0
+same-length-30 c = let t : tie.After-choose = c .before .before .before .before in counted (chose t) .count-pass .kept .1 .1 .1 .1 .1 .1 .1 .1 .1 .1 .1 .1 .0
 
 same-length-31 : tie.Need-same-length-31
-same-length-31 c = let t : tie.After-choose = c .before .before .before .before in counted (chose t) .count-pass .kept .1 .1 .1 .1 .1 .1 .1 .1 .1 .1 .1 .0
+same-length-31 c = let t : tie.After-choose = c .before .before .before .before in counted (chose t) .count-pass .kept .1 .1 .1 .1 .1 .1 .1 .1 .1 .1 .1 .1 .1 .0
 
 same-length-32 : tie.Need-same-length-32
-same-length-32 c = let t : tie.After-choose = c .before .before .before .before in counted (chose t) .count-pass .kept .1 .1 .1 .1 .1 .1 .1 .1 .1 .1 .1 .1 .0
+same-length-32 c = let t : tie.After-choose = c .before .before .before .before in counted (chose t) .count-pass .kept .1 .1 .1 .1 .1 .1 .1 .1 .1 .1 .1 .1 .1 .1 .0
 
 same-length-33 : tie.Need-same-length-33
-same-length-33 c = let t : tie.After-choose = c .before .before .before .before in counted (chose t) .count-pass .kept .1 .1 .1 .1 .1 .1 .1 .1 .1 .1 .1 .1 .1 .0
+same-length-33 c = let t : tie.After-choose = c .before .before .before .before in counted (chose t) .count-pass .kept .1 .1 .1 .1 .1 .1 .1 .1 .1 .1 .1 .1 .1 .1 .1 .0
 
 same-length-34 : tie.Need-same-length-34
-same-length-34 c = let t : tie.After-choose = c .before .before .before .before in counted (chose t) .count-pass .kept .1 .1 .1 .1 .1 .1 .1 .1 .1 .1 .1 .1 .1 .1 .0
+same-length-34 c = let t : tie.After-choose = c .before .before .before .before in counted (chose t) .count-pass .kept .1 .1 .1 .1 .1 .1 .1 .1 .1 .1 .1 .1 .1 .1 .1 .1 .0
 
 same-length-35 : tie.Need-same-length-35
-same-length-35 c = let t : tie.After-choose = c .before .before .before .before in counted (chose t) .count-pass .kept .1 .1 .1 .1 .1 .1 .1 .1 .1 .1 .1 .1 .1 .1 .1 .0
+same-length-35 c = let t : tie.After-choose = c .before .before .before .before in t .choose .kept .1 .1 .1 .1 .1 .1 .1 .1 .1 .1 .1 .0
 
 same-length-36 : tie.Need-same-length-36
-same-length-36 c = let t : tie.After-choose = c .before .before .before .before in counted (chose t) .count-pass .kept .1 .1 .1 .1 .1 .1 .1 .1 .1 .1 .1 .1 .1 .1 .1 .1 .0
-
-same-length-37 : tie.Need-same-length-37
-same-length-37 c = let t : tie.After-choose = c .before .before .before .before in counted (chose t) .count-pass .kept .1 .1 .1 .1 .1 .1 .1 .1 .1 .1 .1 .1 .1 .1 .1 .1 .1 .0
-
-same-length-38 : tie.Need-same-length-38
-same-length-38 c = let t : tie.After-choose = c .before .before .before .before in counted (chose t) .count-pass .kept .1 .1 .1 .1 .1 .1 .1 .1 .1 .1 .1 .1 .1 .1 .1 .1 .1 .1 .0
-
-same-length-39 : tie.Need-same-length-39
-same-length-39 c = let t : tie.After-choose = c .before .before .before .before in t .choose .kept .1 .1 .1 .1 .1 .1 .1 .1 .1 .1 .1 .0
-
-same-length-40 : tie.Need-same-length-40
-same-length-40 c = let t : tie.After-choose = c .before .before .before .before in t .choose .kept .1 .1 .1 .1 .1 .1 .1 .1 .1 .1 .1 .1 .0
+same-length-36 c = let t : tie.After-choose = c .before .before .before .before in t .choose .kept .1 .1 .1 .1 .1 .1 .1 .1 .1 .1 .1 .1 .0
 
 returns-2 : tie.Need-returns-2
 returns-2 c =
@@ -362,7 +312,7 @@ returns-2 c =
       plan = λ h.
           planned (now (a .nodes)) (now (a .wires)) (now (a .obstacles)) (a .stage) (right s) (Lo t) (Hi t) (Host t) (Fixed t) (Gates t) (λ i. getD (Root t) i 0) (λ i. getD (Component t) i 0)
           (t .scan .ensures .0) (a .limit) (t .scan .ensures .1 .0) (t .scan .ensures .1 .1)
-          (Cut d) (Fewest d) (Any d) (Anyweight d) (Quiet d) (Quietweight d) (Count d) (Lightest d) (Ungatable d) (Ungated d) (Near d) (worked e)
+          (Cut d) (Fewest d) (Any d) (Anyweight d) (Count d) (Lightest d) (Ungatable d) (Ungated d) (Near d) (worked e)
           (u .choose .last .1 .1 .1 .1 .1 .1 .1 .1 .1 .1 .1 .0) (u .choose .last .1 .1 .1 .1 .1 .1 .1 .1 .1 .1 .1 .1 .0) (λ r p. u .choose .ensures r (omega (arith, nodes-are t))) (d .count-pass .result .points)
           (subst (λ (m : ℕ). d .count-pass .result .points ≡ rootSum m (Lo t) (Fewest d)) (nodes-are t) (d .count-pass .ensures .1 .1 h));
     }
@@ -391,10 +341,10 @@ run-spec =
     same-length-15
     same-length-16
     same-length-17
-    same-length-18
-    same-length-19
     returns
     choose-requires
+    same-length-18
+    same-length-19
     same-length-20
     same-length-21
     same-length-22
@@ -412,8 +362,4 @@ run-spec =
     same-length-34
     same-length-35
     same-length-36
-    same-length-37
-    same-length-38
-    same-length-39
-    same-length-40
     returns-2)

@@ -5,6 +5,9 @@ use borrow.Author.Needs.{needs}
 use Rattle.jumpers.proofs.count.close_at.Statement.{statement}
 use Rattle.jumpers.proofs.count.close_at.Tie as tie
 
+abbrev start : tie.After-slice-known5 → tie.Start
+start c = c .before .before .before .before .before .before .before .before .before .before .before .before .before .before .before .before .before .before
+
 mul-close : tie.Need-mul-close
 mul-close c = search needs
 
@@ -18,31 +21,22 @@ shared-slice-read-close-2 : tie.Need-shared-slice-read-close-2
 shared-slice-read-close-2 c = search needs
 
 close-requires : tie.Need-close-requires
-close-requires c κs = let p = c .before .before .before .before .before .before .before .before .before .before .before .before .before .before .before .before .before .pre in (p .0, (p .1 .1 .0, (p .1 .1 .1 .0, (p .1 .0 .0, p .1 .1 .1 .1))))
+close-requires c κs = let p = c .before .before .before .before .before .before .before .before .before .before .before .before .before .before .before .pre in (p .0, (p .1 .1 .0, (p .1 .1 .1 .0, (p .1 .0 .0, p .1 .1 .1 .1))))
 
 mul-fewest : tie.Need-mul-fewest
-mul-fewest c = omega (arith, c .before .before .before .before .before .before .before .before .before .before .before .before .before .before .before .before .before .before .before .before .pre .1 .0, c .before .before .before .before .before .before .before .before .before .before .before .before .before .before .before .before .before .before .before .before .pre .1 .1 .0 .few)
+mul-fewest c = omega (arith, start c .pre .1 .0, start c .pre .1 .1 .0 .few)
 
 slice-write-fewest : tie.Need-slice-write-fewest
-slice-write-fewest c = omega (arith, c .before .before .before .before .before .before .before .before .before .before .before .before .before .before .before .before .before .before .before .before .pre .1 .0, c .before .before .before .before .before .before .before .before .before .before .before .before .before .before .before .before .before .before .before .before .pre .1 .1 .0 .few)
+slice-write-fewest c = omega (arith, start c .pre .1 .0, start c .pre .1 .1 .0 .few)
 
 slice-write-any : tie.Need-slice-write-any
-slice-write-any c = omega (arith, c .before .before .before .before .before .before .before .before .before .before .before .before .before .before .before .before .before .before .before .before .pre .1 .0, c .before .before .before .before .before .before .before .before .before .before .before .before .before .before .before .before .before .before .before .before .pre .1 .1 .0 .few)
+slice-write-any c = omega (arith, start c .pre .1 .0, start c .pre .1 .1 .0 .few)
 
 mul-anyweight : tie.Need-mul-anyweight
-mul-anyweight c = omega (arith, c .before .before .before .before .before .before .before .before .before .before .before .before .before .before .before .before .before .before .before .before .pre .1 .0, c .before .before .before .before .before .before .before .before .before .before .before .before .before .before .before .before .before .before .before .before .pre .1 .1 .0 .few)
+mul-anyweight c = omega (arith, start c .pre .1 .0, start c .pre .1 .1 .0 .few)
 
 slice-write-anyweight : tie.Need-slice-write-anyweight
-slice-write-anyweight c = omega (arith, c .before .before .before .before .before .before .before .before .before .before .before .before .before .before .before .before .before .before .before .before .pre .1 .0, c .before .before .before .before .before .before .before .before .before .before .before .before .before .before .before .before .before .before .before .before .pre .1 .1 .0 .few)
-
-slice-write-ungated-ok : tie.Need-slice-write-ungated-ok
-slice-write-ungated-ok c = omega (arith, c .before .before .before .before .before .before .before .before .before .before .before .before .before .before .before .before .before .before .before .before .pre .1 .0, c .before .before .before .before .before .before .before .before .before .before .before .before .before .before .before .before .before .before .before .before .pre .1 .1 .0 .few)
-
-mul-ungated-weight : tie.Need-mul-ungated-weight
-mul-ungated-weight c = omega (arith, c .before .before .before .before .before .before .before .before .before .before .before .before .before .before .before .before .before .before .before .before .pre .1 .0, c .before .before .before .before .before .before .before .before .before .before .before .before .before .before .before .before .before .before .before .before .pre .1 .1 .0 .few)
-
-slice-write-ungated-weight : tie.Need-slice-write-ungated-weight
-slice-write-ungated-weight c = omega (arith, c .before .before .before .before .before .before .before .before .before .before .before .before .before .before .before .before .before .before .before .before .pre .1 .0, c .before .before .before .before .before .before .before .before .before .before .before .before .before .before .before .before .before .before .before .before .pre .1 .1 .0 .few)
+slice-write-anyweight c = omega (arith, start c .pre .1 .0, start c .pre .1 .1 .0 .few)
 
 same-length : tie.Need-same-length
 same-length c = search needs
@@ -55,12 +49,6 @@ same-length-3 c = search needs
 
 same-length-4 : tie.Need-same-length-4
 same-length-4 c = search needs
-
-same-length-5 : tie.Need-same-length-5
-same-length-5 c = search needs
-
-same-length-6 : tie.Need-same-length-6
-same-length-6 c = search needs
 
 returns : tie.Need-returns
 returns c = search needs
@@ -79,13 +67,8 @@ close-at-spec =
     slice-write-any
     mul-anyweight
     slice-write-anyweight
-    slice-write-ungated-ok
-    mul-ungated-weight
-    slice-write-ungated-weight
     same-length
     same-length-2
     same-length-3
     same-length-4
-    same-length-5
-    same-length-6
     returns)
