@@ -1,10 +1,12 @@
 // The pass up: the option that each cluster takes, and the branches cut at their highest cuttable point.
 use crate::climb::stretch_weight;
+use net::layout::MOST_NODES;
 ghost use mathlib.Core.Path.{_≡_};
-ghost use mathlib.Core.Bool.{_&&_, _||_};
+ghost use mathlib.Core.Bool.{Bool, _&&_, _||_};
+ghost use mathlib.Core.List.{List};
 ghost use Prim.Native.Nat.{ℕ, _*_, _^_, _<_, _≤_};
 ghost use lib.ListN.{length, getD};
-ghost use Rattle.net.specs.Layout.{wireBytes};
+ghost use Rattle.net.specs.Layout.{mostNodes, wireBytes};
 ghost use Rattle.jumpers.specs.Choose.{cutHere, fitsWhole, anyHere, Chooses, Choosable};
 
 // Branch r is cut at its highest cuttable point, where its host has its option.
@@ -88,8 +90,8 @@ fn mode_of(
     takes_any(0 < near[r], mode[host[r]], here, fits)
 }
 
-// The option of every cluster and the cut of every branch, hosts before their branches.
-pub fn choose(
+// The option of every cluster and the cut of every branch over lent arrays, hosts before their branches.
+fn choose_options(
     n: usize,
     wires: &[u8],
     lo: &[u64],
@@ -115,4 +117,41 @@ pub fn choose(
         mode[r] = mode_of(wires, lo, hi, host, ok, weight, near, limit, mode, here, r);
         r += 1;
     }
+}
+
+// The cut of every branch, with the options that lead to it.
+pub fn choose(
+    n: usize,
+    wires: &[u8],
+    lo: &[u64],
+    hi: &[u64],
+    host: &[usize],
+    cut: &[bool],
+    ok: &[bool],
+    weight: &[u64],
+    ungatable: &[bool],
+    near: &[u64],
+    limit: u64,
+    high: &mut [bool],
+)
+    requires { ⌜ (n ≤ length (now lo)) × (n ≤ length (now hi)) × (n ≤ length (now host)) × (n ≤ length (now cut)) × (n ≤ length (now ok)) × (n ≤ length (now weight)) × (n ≤ length (now ungatable)) × (n ≤ length (now near)) × (n ≤ length (now high)) ⌝ }
+    requires { ⌜ Choosable n (now wires) (now lo) (now hi) (now host) (now weight) × (n ≤ mostNodes) ⌝ }
+    ensures { λ _. ⌜ ((mode : List Bool) × ((r : ℕ) → r < n → Chooses (now (wires .entry)) (now (lo .entry)) (now (hi .entry)) (now (host .entry)) (now (cut .entry)) (now (ok .entry)) (now (weight .entry)) (now (ungatable .entry)) (now (near .entry)) limit mode (now (high .exit)) r)) ⌝ }
+{
+    let mut mode = [false; MOST_NODES];
+    choose_options(
+        n,
+        wires,
+        lo,
+        hi,
+        host,
+        cut,
+        ok,
+        weight,
+        ungatable,
+        near,
+        limit,
+        &mut mode,
+        high,
+    );
 }

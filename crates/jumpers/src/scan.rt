@@ -1,4 +1,5 @@
 // The first passes of repair: cuttable points, clusters, components, and the weight and gates that no cut parts from a cluster.
+use net::layout::MOST_NODES;
 use net::records::is_gate;
 use net::records::is_source;
 use net::records::node_count;
@@ -13,7 +14,7 @@ ghost use mathlib.Core.Path.{_≡_};
 ghost use mathlib.Core.Bool.{Bool, true, false};
 ghost use Prim.Native.Nat.{ℕ, _+_, _*_, _^_, _<_, _≤_};
 ghost use lib.ListN.{length, getD};
-ghost use Rattle.net.specs.Layout.{wireBytes};
+ghost use Rattle.net.specs.Layout.{mostNodes, wireBytes};
 ghost use Rattle.net.specs.Net.{nodeCount, wireParent, wireLength};
 ghost use Rattle.net.specs.Stage.{stageOf};
 ghost use Rattle.cuts.specs.Fits.{Fits};
@@ -271,8 +272,8 @@ pub fn weigh_clusters(
     }
 }
 
-// All the first passes in order.
-pub fn scan(
+// All the first passes in order over lent arrays.
+fn first_passes(
     nodes: &[u8],
     wires: &[u8],
     obstacles: &[u8],
@@ -301,4 +302,43 @@ pub fn scan(
     mark_sources(nodes, component, sourced);
     count_gates(nodes, root, component, sourced, gates);
     weigh_clusters(nodes, wires, stage, lo, hi, root, host, fixed);
+}
+
+// All the first passes, with the arrays that only they use.
+pub fn scan(
+    nodes: &[u8],
+    wires: &[u8],
+    obstacles: &[u8],
+    stage: u8,
+    lo: &mut [u64],
+    hi: &mut [u64],
+    host: &mut [usize],
+    fixed: &mut [u64],
+    gates: &mut [u64],
+)
+    requires { ⌜ Wired (now nodes) (now wires) × (nodeCount (now nodes) ≤ mostNodes) ⌝ }
+    requires { ⌜ (nodeCount (now nodes) ≤ length (now lo)) × (nodeCount (now nodes) ≤ length (now hi)) × (nodeCount (now nodes) ≤ length (now host)) × (nodeCount (now nodes) ≤ length (now fixed)) × (nodeCount (now nodes) ≤ length (now gates)) ⌝ }
+    ensures { λ _. ⌜ ((root : ℕ → ℕ) × (component : ℕ → ℕ) × Fits (stageOf (now (nodes .entry)) (now (wires .entry)) (now (obstacles .entry)) stage)
+        (clustersOf (stageOf (now (nodes .entry)) (now (wires .entry)) (now (obstacles .entry)) stage) (now (lo .exit)) (now (hi .exit)) (now (host .exit)) (now (fixed .exit)) (now (gates .exit)))
+        root component) ⌝ }
+    ensures { λ _. ⌜ allWeight (clustersOf (stageOf (now (nodes .entry)) (now (wires .entry)) (now (obstacles .entry)) stage) (now (lo .exit)) (now (hi .exit)) (now (host .exit)) (now (fixed .exit)) (now (gates .exit))) < 2 ^ 48 ⌝ }
+    ensures { λ _. ⌜ ((r : ℕ) → r < nodeCount (now (nodes .entry)) → getD (now (hi .exit)) r 0 < 65536) ⌝ }
+{
+    let mut root = [0usize; MOST_NODES];
+    let mut component = [0usize; MOST_NODES];
+    let mut sourced = [false; MOST_NODES];
+    first_passes(
+        nodes,
+        wires,
+        obstacles,
+        stage,
+        lo,
+        hi,
+        &mut root,
+        host,
+        &mut component,
+        &mut sourced,
+        fixed,
+        gates,
+    );
 }

@@ -28,10 +28,7 @@ fn run(
     limit: u64,
     lo: &mut [u64],
     hi: &mut [u64],
-    root: &mut [usize],
     host: &mut [usize],
-    component: &mut [usize],
-    sourced: &mut [bool],
     fixed: &mut [u64],
     gates: &mut [u64],
     cut: &mut [bool],
@@ -43,29 +40,15 @@ fn run(
     ungatable: &mut [bool],
     ungated: &mut [u64],
     near: &mut [u64],
-    mode: &mut [bool],
     high: &mut [bool],
 ) -> Count
     requires { ⌜ netRefusal (now nodes) (now wires) (now obstacles) ≡ none ⌝ }
-    requires { ⌜ (mostNodes ≤ length (now lo)) × (mostNodes ≤ length (now hi)) × (mostNodes ≤ length (now root)) × (mostNodes ≤ length (now host)) × (mostNodes ≤ length (now component)) × (mostNodes ≤ length (now sourced)) × (mostNodes ≤ length (now fixed)) × (mostNodes ≤ length (now gates)) × (mostNodes ≤ length (now cut)) × (mostNodes ≤ length (now fewest)) × (mostNodes ≤ length (now any)) × (mostNodes ≤ length (now anyweight)) × (mostNodes ≤ length (now count)) × (mostNodes ≤ length (now lightest)) × (mostNodes ≤ length (now ungatable)) × (mostNodes ≤ length (now ungated)) × (mostNodes ≤ length (now near)) × (mostNodes ≤ length (now mode)) × (mostNodes ≤ length (now high)) ⌝ }
+    requires { ⌜ (mostNodes ≤ length (now lo)) × (mostNodes ≤ length (now hi)) × (mostNodes ≤ length (now host)) × (mostNodes ≤ length (now fixed)) × (mostNodes ≤ length (now gates)) × (mostNodes ≤ length (now cut)) × (mostNodes ≤ length (now fewest)) × (mostNodes ≤ length (now any)) × (mostNodes ≤ length (now anyweight)) × (mostNodes ≤ length (now count)) × (mostNodes ≤ length (now lightest)) × (mostNodes ≤ length (now ungatable)) × (mostNodes ≤ length (now ungated)) × (mostNodes ≤ length (now near)) × (mostNodes ≤ length (now high)) ⌝ }
     requires { ⌜ ((j : ℕ) → getD (now cut) j false ≡ false) ⌝ }
     ensures { λ x. ⌜ Plans (now (nodes .entry)) (now (wires .entry)) (now (obstacles .entry)) stage limit (now (hi .exit)) (now (near .exit)) (now (high .exit)) (x .hopeless) (x .points) ⌝ }
 {
     let n = node_count(nodes);
-    scan(
-        nodes,
-        wires,
-        obstacles,
-        stage,
-        lo,
-        hi,
-        root,
-        host,
-        component,
-        sourced,
-        fixed,
-        gates,
-    );
+    scan(nodes, wires, obstacles, stage, lo, hi, host, fixed, gates);
     let found = count_pass(
         nodes,
         wires,
@@ -102,7 +85,6 @@ fn run(
         ungatable,
         near,
         limit,
-        mode,
         high,
     );
     found
@@ -124,10 +106,7 @@ fn plan(
     ensures { λ x. ⌜ Plans (now (nodes .entry)) (now (wires .entry)) (now (obstacles .entry)) stage limit (now (hi .exit)) (now (near .exit)) (now (high .exit)) (x .hopeless) (x .points) ⌝ }
 {
     let mut lo = [0u64; MOST_NODES];
-    let mut root = [0usize; MOST_NODES];
     let mut host = [0usize; MOST_NODES];
-    let mut component = [0usize; MOST_NODES];
-    let mut sourced = [false; MOST_NODES];
     let mut fixed = [0u64; MOST_NODES];
     let mut gates = [0u64; MOST_NODES];
     let mut cut = [false; MOST_NODES];
@@ -138,7 +117,6 @@ fn plan(
     let mut lightest = [0u64; MOST_NODES];
     let mut ungatable = [false; MOST_NODES];
     let mut ungated = [0u64; MOST_NODES];
-    let mut mode = [false; MOST_NODES];
     run(
         nodes,
         wires,
@@ -147,10 +125,7 @@ fn plan(
         limit,
         &mut lo,
         hi,
-        &mut root,
         &mut host,
-        &mut component,
-        &mut sourced,
         &mut fixed,
         &mut gates,
         &mut cut,
@@ -162,7 +137,6 @@ fn plan(
         &mut ungatable,
         &mut ungated,
         near,
-        &mut mode,
         high,
     )
 }

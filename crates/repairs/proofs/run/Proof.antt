@@ -21,19 +21,19 @@ use Rattle.repairs.proofs.run.Tie as tie
 
 -- ---- the places after each pass
 abbrev start : tie.After-scan → tie.Start
-start c = c .before .before .before .before .before .before .before .before .before .before .before .before .before .before .before .before .before .before .before .before .before .before .before .before .before .before .before .before .before .before .before .before
+start c = c .before .before .before .before .before .before .before .before .before .before .before .before .before .before .before .before .before .before .before .before .before .before .before .before .before
 
 abbrev numbered : tie.After-scan → tie.After-node-count
-numbered c = c .before .before .before .before .before .before .before .before .before
+numbered c = c .before .before .before .before .before .before
 
 abbrev scanned : tie.After-count-pass → tie.After-scan
-scanned c = c .before .before .before .before .before .before .before .before .before .before .before .before .before .before .before .before .before .before .before .before .before .before .before .before .before .before .before .before .before .before .before
+scanned c = c .before .before .before .before .before .before .before .before .before .before .before .before .before .before .before .before .before .before .before .before .before .before .before .before .before
 
 abbrev counted : tie.Else1 → tie.After-count-pass
 counted c = c .before .before .before .before .before .before .before .before .before .before .before .before .before .before .before .before .before .before .before
 
 abbrev chose : tie.After-choose → tie.Else1
-chose c = c .before .before .before .before .before .before .before .before .before .before .before
+chose c = c .before .before .before .before .before .before .before .before .before .before
 
 -- ---- the arrays that they leave
 abbrev Lo : tie.After-scan → List ℕ
@@ -42,20 +42,14 @@ Lo c = c .scan .last .1 .1 .1 .1 .0
 abbrev Hi : tie.After-scan → List ℕ
 Hi c = c .scan .last .1 .1 .1 .1 .1 .0
 
-abbrev Root : tie.After-scan → List ℕ
-Root c = c .scan .last .1 .1 .1 .1 .1 .1 .0
-
 abbrev Host : tie.After-scan → List ℕ
-Host c = c .scan .last .1 .1 .1 .1 .1 .1 .1 .0
-
-abbrev Component : tie.After-scan → List ℕ
-Component c = c .scan .last .1 .1 .1 .1 .1 .1 .1 .1 .0
+Host c = c .scan .last .1 .1 .1 .1 .1 .1 .0
 
 abbrev Fixed : tie.After-scan → List ℕ
-Fixed c = c .scan .last .1 .1 .1 .1 .1 .1 .1 .1 .1 .1 .0
+Fixed c = c .scan .last .1 .1 .1 .1 .1 .1 .1 .0
 
 abbrev Gates : tie.After-scan → List ℕ
-Gates c = c .scan .last .1 .1 .1 .1 .1 .1 .1 .1 .1 .1 .1 .0
+Gates c = c .scan .last .1 .1 .1 .1 .1 .1 .1 .1 .0
 
 abbrev Cut : tie.After-count-pass → List Bool
 Cut c = c .count-pass .last .1 .1 .1 .1 .1 .1 .1 .1 .0
@@ -102,47 +96,47 @@ hi-long : (c : tie.After-scan) → nodeCount (now (start c .args .nodes)) ≤ le
 hi-long c = omega (arith, c .scan .kept .1 .1 .1 .1 .1 .0, few (start c), start c .pre .1 .0 .1)
 
 host-long : (c : tie.After-scan) → nodeCount (now (start c .args .nodes)) ≤ length (Host c)
-host-long c = omega (arith, c .scan .kept .1 .1 .1 .1 .1 .1 .1 .0, few (start c), start c .pre .1 .0 .3)
+host-long c = omega (arith, c .scan .kept .1 .1 .1 .1 .1 .1 .0, few (start c), start c .pre .1 .0 .2)
 
 fixed-long : (c : tie.After-scan) → nodeCount (now (start c .args .nodes)) ≤ length (Fixed c)
-fixed-long c = omega (arith, c .scan .kept .1 .1 .1 .1 .1 .1 .1 .1 .1 .1 .0, few (start c), start c .pre .1 .0 .6)
+fixed-long c = omega (arith, c .scan .kept .1 .1 .1 .1 .1 .1 .1 .0, few (start c), start c .pre .1 .0 .3)
 
 gates-long : (c : tie.After-scan) → nodeCount (now (start c .args .nodes)) ≤ length (Gates c)
-gates-long c = omega (arith, c .scan .kept .1 .1 .1 .1 .1 .1 .1 .1 .1 .1 .1 .0, few (start c), start c .pre .1 .0 .7)
+gates-long c = omega (arith, c .scan .kept .1 .1 .1 .1 .1 .1 .1 .1 .0, few (start c), start c .pre .1 .0 .4)
 
 cut-long : (c : tie.After-count-pass) → nodeCount (now (start (scanned c) .args .nodes)) ≤ length (Cut c)
-cut-long c = omega (arith, c .count-pass .kept .1 .1 .1 .1 .1 .1 .1 .1 .0, few (start (scanned c)), start (scanned c) .pre .1 .0 .8)
+cut-long c = omega (arith, c .count-pass .kept .1 .1 .1 .1 .1 .1 .1 .1 .0, few (start (scanned c)), start (scanned c) .pre .1 .0 .5)
 
 any-long : (c : tie.After-count-pass) → nodeCount (now (start (scanned c) .args .nodes)) ≤ length (Any c)
-any-long c = omega (arith, c .count-pass .kept .1 .1 .1 .1 .1 .1 .1 .1 .1 .1 .0, few (start (scanned c)), start (scanned c) .pre .1 .0 .10)
+any-long c = omega (arith, c .count-pass .kept .1 .1 .1 .1 .1 .1 .1 .1 .1 .1 .0, few (start (scanned c)), start (scanned c) .pre .1 .0 .7)
 
 anyweight-long : (c : tie.After-count-pass) → nodeCount (now (start (scanned c) .args .nodes)) ≤ length (Anyweight c)
-anyweight-long c = omega (arith, c .count-pass .kept .1 .1 .1 .1 .1 .1 .1 .1 .1 .1 .1 .0, few (start (scanned c)), start (scanned c) .pre .1 .0 .11)
+anyweight-long c = omega (arith, c .count-pass .kept .1 .1 .1 .1 .1 .1 .1 .1 .1 .1 .1 .0, few (start (scanned c)), start (scanned c) .pre .1 .0 .8)
 
 ungatable-long : (c : tie.After-count-pass) → nodeCount (now (start (scanned c) .args .nodes)) ≤ length (Ungatable c)
-ungatable-long c = omega (arith, c .count-pass .kept .1 .1 .1 .1 .1 .1 .1 .1 .1 .1 .1 .1 .1 .1 .0, few (start (scanned c)), start (scanned c) .pre .1 .0 .14)
+ungatable-long c = omega (arith, c .count-pass .kept .1 .1 .1 .1 .1 .1 .1 .1 .1 .1 .1 .1 .1 .1 .0, few (start (scanned c)), start (scanned c) .pre .1 .0 .11)
 
 near-long : (c : tie.After-count-pass) → nodeCount (now (start (scanned c) .args .nodes)) ≤ length (Near c)
-near-long c = omega (arith, c .count-pass .kept .1 .1 .1 .1 .1 .1 .1 .1 .1 .1 .1 .1 .1 .1 .1 .1 .0, few (start (scanned c)), start (scanned c) .pre .1 .0 .16)
+near-long c = omega (arith, c .count-pass .kept .1 .1 .1 .1 .1 .1 .1 .1 .1 .1 .1 .1 .1 .1 .1 .1 .0, few (start (scanned c)), start (scanned c) .pre .1 .0 .13)
 
 node-count-requires : tie.Need-node-count-requires
 node-count-requires c κs = tt
 
 scan-requires : tie.Need-scan-requires
 scan-requires c κs =
-    let s : tie.Start = c .before .before .before .before .before .before .before .before .before .before .before .before .before .before .before .before .before .before .before .before .before .before .before .before .before .before .before .before .before .before .before in
-    (wired-of (right s), (omega (arith, few s, s .pre .1 .0 .0), omega (arith, few s, s .pre .1 .0 .1), omega (arith, few s, s .pre .1 .0 .2), omega (arith, few s, s .pre .1 .0 .3), omega (arith, few s, s .pre .1 .0 .4), omega (arith, few s, s .pre .1 .0 .5), omega (arith, few s, s .pre .1 .0 .6), omega (arith, few s, s .pre .1 .0 .7)))
+    let s : tie.Start = c .before .before .before .before .before .before .before .before .before .before .before .before .before .before .before .before .before .before .before .before .before .before .before .before in
+    ((wired-of (right s), few s), (omega (arith, few s, s .pre .1 .0 .0), omega (arith, few s, s .pre .1 .0 .1), omega (arith, few s, s .pre .1 .0 .2), omega (arith, few s, s .pre .1 .0 .3), omega (arith, few s, s .pre .1 .0 .4)))
 
 count-pass-requires : tie.Need-count-pass-requires
 count-pass-requires c κs =
-    let t : tie.After-scan = c .before .before .before .before .before .before .before .before .before .before .before .before .before .before .before .before .before .before .before .before .before .before .before .before .before .before .before .before .before .before in
+    let t : tie.After-scan = c .before .before .before .before .before .before .before .before .before .before .before .before .before .before .before .before .before .before .before .before .before .before .before .before in
     let s = start t in
     let a = s .args in (
       subst (λ (m : ℕ). Ready m (now (a .nodes)) (now (a .wires)) (now (a .obstacles)) (Lo t) (Hi t) (Host t) (Fixed t) (Gates t)) (sym (nodes-are t))
-          (ready-of (now (a .nodes)) (now (a .wires)) (now (a .obstacles)) (a .stage) (right s) (Lo t) (Hi t) (Host t) (Fixed t) (Gates t) (λ i. getD (Root t) i 0) (λ i. getD (Component t) i 0)
-          (t .scan .ensures .0) (t .scan .ensures .1 .0) (lo-long t) (hi-long t) (host-long t) (fixed-long t) (gates-long t)),
+          (ready-of (now (a .nodes)) (now (a .wires)) (now (a .obstacles)) (a .stage) (right s) (Lo t) (Hi t) (Host t) (Fixed t) (Gates t) (t .scan .ensures .0 .0) (t .scan .ensures .0 .1)
+          (t .scan .ensures .0 .2) (t .scan .ensures .1 .0) (lo-long t) (hi-long t) (host-long t) (fixed-long t) (gates-long t)),
       (
-        record { cuts = omega (arith, nodes-are t, few s, s .pre .1 .0 .8); fewests = omega (arith, nodes-are t, few s, s .pre .1 .0 .9); anys = omega (arith, nodes-are t, few s, s .pre .1 .0 .10); any-weights = omega (arith, nodes-are t, few s, s .pre .1 .0 .11); counts = omega (arith, nodes-are t, few s, s .pre .1 .0 .12); lights = omega (arith, nodes-are t, few s, s .pre .1 .0 .13); flags = omega (arith, nodes-are t, few s, s .pre .1 .0 .14); ungateds = omega (arith, nodes-are t, few s, s .pre .1 .0 .15); nears = omega (arith, nodes-are t, few s, s .pre .1 .0 .16) },
+        record { cuts = omega (arith, nodes-are t, few s, s .pre .1 .0 .5); fewests = omega (arith, nodes-are t, few s, s .pre .1 .0 .6); anys = omega (arith, nodes-are t, few s, s .pre .1 .0 .7); any-weights = omega (arith, nodes-are t, few s, s .pre .1 .0 .8); counts = omega (arith, nodes-are t, few s, s .pre .1 .0 .9); lights = omega (arith, nodes-are t, few s, s .pre .1 .0 .10); flags = omega (arith, nodes-are t, few s, s .pre .1 .0 .11); ungateds = omega (arith, nodes-are t, few s, s .pre .1 .0 .12); nears = omega (arith, nodes-are t, few s, s .pre .1 .0 .13) },
         λ j p. s .pre .1 .1 j,
       ),
     )
@@ -163,40 +157,31 @@ same-length-5 : tie.Need-same-length-5
 same-length-5 c = let t : tie.After-count-pass = c .before .before .before .before .before .before .before .before .before .before .before .before .before .before .before .before .before .before .before in scanned t .scan .kept .1 .1 .1 .1 .1 .1 .1 .1 .0
 
 same-length-6 : tie.Need-same-length-6
-same-length-6 c = let t : tie.After-count-pass = c .before .before .before .before .before .before .before .before .before .before .before .before .before .before .before .before .before .before .before in scanned t .scan .kept .1 .1 .1 .1 .1 .1 .1 .1 .1 .0
+same-length-6 c = let t : tie.After-count-pass = c .before .before .before .before .before .before .before .before .before .before .before .before .before .before .before .before .before .before .before in t .count-pass .kept .1 .1 .1 .1 .1 .1 .1 .1 .0
 
 same-length-7 : tie.Need-same-length-7
-same-length-7 c = let t : tie.After-count-pass = c .before .before .before .before .before .before .before .before .before .before .before .before .before .before .before .before .before .before .before in scanned t .scan .kept .1 .1 .1 .1 .1 .1 .1 .1 .1 .1 .0
+same-length-7 c = let t : tie.After-count-pass = c .before .before .before .before .before .before .before .before .before .before .before .before .before .before .before .before .before .before .before in t .count-pass .kept .1 .1 .1 .1 .1 .1 .1 .1 .1 .0
 
 same-length-8 : tie.Need-same-length-8
-same-length-8 c = let t : tie.After-count-pass = c .before .before .before .before .before .before .before .before .before .before .before .before .before .before .before .before .before .before .before in scanned t .scan .kept .1 .1 .1 .1 .1 .1 .1 .1 .1 .1 .1 .0
+same-length-8 c = let t : tie.After-count-pass = c .before .before .before .before .before .before .before .before .before .before .before .before .before .before .before .before .before .before .before in t .count-pass .kept .1 .1 .1 .1 .1 .1 .1 .1 .1 .1 .0
 
 same-length-9 : tie.Need-same-length-9
-same-length-9 c = let t : tie.After-count-pass = c .before .before .before .before .before .before .before .before .before .before .before .before .before .before .before .before .before .before .before in t .count-pass .kept .1 .1 .1 .1 .1 .1 .1 .1 .0
+same-length-9 c = let t : tie.After-count-pass = c .before .before .before .before .before .before .before .before .before .before .before .before .before .before .before .before .before .before .before in t .count-pass .kept .1 .1 .1 .1 .1 .1 .1 .1 .1 .1 .1 .0
 
 same-length-10 : tie.Need-same-length-10
-same-length-10 c = let t : tie.After-count-pass = c .before .before .before .before .before .before .before .before .before .before .before .before .before .before .before .before .before .before .before in t .count-pass .kept .1 .1 .1 .1 .1 .1 .1 .1 .1 .0
+same-length-10 c = let t : tie.After-count-pass = c .before .before .before .before .before .before .before .before .before .before .before .before .before .before .before .before .before .before .before in t .count-pass .kept .1 .1 .1 .1 .1 .1 .1 .1 .1 .1 .1 .1 .0
 
 same-length-11 : tie.Need-same-length-11
-same-length-11 c = let t : tie.After-count-pass = c .before .before .before .before .before .before .before .before .before .before .before .before .before .before .before .before .before .before .before in t .count-pass .kept .1 .1 .1 .1 .1 .1 .1 .1 .1 .1 .0
+same-length-11 c = let t : tie.After-count-pass = c .before .before .before .before .before .before .before .before .before .before .before .before .before .before .before .before .before .before .before in t .count-pass .kept .1 .1 .1 .1 .1 .1 .1 .1 .1 .1 .1 .1 .1 .0
 
 same-length-12 : tie.Need-same-length-12
-same-length-12 c = let t : tie.After-count-pass = c .before .before .before .before .before .before .before .before .before .before .before .before .before .before .before .before .before .before .before in t .count-pass .kept .1 .1 .1 .1 .1 .1 .1 .1 .1 .1 .1 .0
+same-length-12 c = let t : tie.After-count-pass = c .before .before .before .before .before .before .before .before .before .before .before .before .before .before .before .before .before .before .before in t .count-pass .kept .1 .1 .1 .1 .1 .1 .1 .1 .1 .1 .1 .1 .1 .1 .0
 
 same-length-13 : tie.Need-same-length-13
-same-length-13 c = let t : tie.After-count-pass = c .before .before .before .before .before .before .before .before .before .before .before .before .before .before .before .before .before .before .before in t .count-pass .kept .1 .1 .1 .1 .1 .1 .1 .1 .1 .1 .1 .1 .0
+same-length-13 c = let t : tie.After-count-pass = c .before .before .before .before .before .before .before .before .before .before .before .before .before .before .before .before .before .before .before in t .count-pass .kept .1 .1 .1 .1 .1 .1 .1 .1 .1 .1 .1 .1 .1 .1 .1 .0
 
 same-length-14 : tie.Need-same-length-14
-same-length-14 c = let t : tie.After-count-pass = c .before .before .before .before .before .before .before .before .before .before .before .before .before .before .before .before .before .before .before in t .count-pass .kept .1 .1 .1 .1 .1 .1 .1 .1 .1 .1 .1 .1 .1 .0
-
-same-length-15 : tie.Need-same-length-15
-same-length-15 c = let t : tie.After-count-pass = c .before .before .before .before .before .before .before .before .before .before .before .before .before .before .before .before .before .before .before in t .count-pass .kept .1 .1 .1 .1 .1 .1 .1 .1 .1 .1 .1 .1 .1 .1 .0
-
-same-length-16 : tie.Need-same-length-16
-same-length-16 c = let t : tie.After-count-pass = c .before .before .before .before .before .before .before .before .before .before .before .before .before .before .before .before .before .before .before in t .count-pass .kept .1 .1 .1 .1 .1 .1 .1 .1 .1 .1 .1 .1 .1 .1 .1 .0
-
-same-length-17 : tie.Need-same-length-17
-same-length-17 c = let t : tie.After-count-pass = c .before .before .before .before .before .before .before .before .before .before .before .before .before .before .before .before .before .before .before in t .count-pass .kept .1 .1 .1 .1 .1 .1 .1 .1 .1 .1 .1 .1 .1 .1 .1 .1 .0
+same-length-14 c = let t : tie.After-count-pass = c .before .before .before .before .before .before .before .before .before .before .before .before .before .before .before .before .before .before .before in t .count-pass .kept .1 .1 .1 .1 .1 .1 .1 .1 .1 .1 .1 .1 .1 .1 .1 .1 .0
 
 returns : tie.Need-returns
 returns c =
@@ -206,8 +191,8 @@ returns c =
     let a = s .args in
     record {
       no-set = λ h.
-          none-of (now (a .nodes)) (now (a .wires)) (now (a .obstacles)) (a .stage) (right s) (Lo t) (Hi t) (Host t) (Fixed t) (Gates t) (λ i. getD (Root t) i 0) (λ i. getD (Component t) i 0)
-          (t .scan .ensures .0) (a .limit) (subst (λ (m : ℕ). Hopeless m (Fixed t) (Gates t) (a .limit)) (nodes-are t) (d .count-pass .ensures .0 h));
+          none-of (now (a .nodes)) (now (a .wires)) (now (a .obstacles)) (a .stage) (right s) (Lo t) (Hi t) (Host t) (Fixed t) (Gates t) (t .scan .ensures .0 .0) (t .scan .ensures .0 .1)
+          (t .scan .ensures .0 .2) (a .limit) (subst (λ (m : ℕ). Hopeless m (Fixed t) (Gates t) (a .limit)) (nodes-are t) (d .count-pass .ensures .0 h));
       plan = λ h. absurd (no-both (c .if1 .taken) h);
     }
 
@@ -230,78 +215,69 @@ worked e =
 
 choose-requires : tie.Need-choose-requires
 choose-requires c κs =
-    let e : tie.Else1 = c .before .before .before .before .before .before .before .before .before .before in
+    let e : tie.Else1 = c .before .before .before .before .before .before .before .before .before in
     let d = counted e in
     let t = scanned d in
     let s = start t in
     let a = s .args in (
-      (omega (arith, nodes-are t, lo-long t), omega (arith, nodes-are t, hi-long t), omega (arith, nodes-are t, host-long t), omega (arith, nodes-are t, cut-long d), omega (arith, nodes-are t, any-long d), omega (arith, nodes-are t, anyweight-long d), omega (arith, nodes-are t, ungatable-long d), omega (arith, nodes-are t, near-long d), omega (arith, nodes-are t, few s, s .pre .1 .0 .17), omega (arith, nodes-are t, few s, s .pre .1 .0 .18)),
-      subst (λ (m : ℕ). Choosable m (now (a .wires)) (Lo t) (Hi t) (Host t) (Anyweight d)) (sym (nodes-are t))
-          (choosable-of (now (a .nodes)) (now (a .wires)) (now (a .obstacles)) (a .stage) (right s) (Lo t) (Hi t) (Host t) (Fixed t) (Gates t) (λ i. getD (Root t) i 0) (λ i. getD (Component t) i 0)
-          (t .scan .ensures .0) (a .limit) (t .scan .ensures .1 .0) (t .scan .ensures .1 .1)
-          (Cut d) (Fewest d) (Any d) (Anyweight d) (Count d) (Lightest d) (Ungatable d) (Ungated d) (Near d) (worked e)),
+      (omega (arith, nodes-are t, lo-long t), omega (arith, nodes-are t, hi-long t), omega (arith, nodes-are t, host-long t), omega (arith, nodes-are t, cut-long d), omega (arith, nodes-are t, any-long d), omega (arith, nodes-are t, anyweight-long d), omega (arith, nodes-are t, ungatable-long d), omega (arith, nodes-are t, near-long d), omega (arith, nodes-are t, few s, s .pre .1 .0 .14)),
+      (
+        subst (λ (m : ℕ). Choosable m (now (a .wires)) (Lo t) (Hi t) (Host t) (Anyweight d)) (sym (nodes-are t))
+            (choosable-of (now (a .nodes)) (now (a .wires)) (now (a .obstacles)) (a .stage) (right s) (Lo t) (Hi t) (Host t) (Fixed t) (Gates t) (t .scan .ensures .0 .0) (t .scan .ensures .0 .1)
+            (t .scan .ensures .0 .2) (a .limit) (t .scan .ensures .1 .0) (t .scan .ensures .1 .1)
+            (Cut d) (Fewest d) (Any d) (Anyweight d) (Count d) (Lightest d) (Ungatable d) (Ungated d) (Near d) (worked e)),
+        omega (arith, nodes-are t, few s),
+      ),
     )
 
+same-length-15 : tie.Need-same-length-15
+same-length-15 c = let t : tie.After-choose = c .before .before in scanned (counted (chose t)) .scan .kept .1 .1 .1 .1 .0
+
+same-length-16 : tie.Need-same-length-16
+same-length-16 c = let t : tie.After-choose = c .before .before in scanned (counted (chose t)) .scan .kept .1 .1 .1 .1 .1 .0
+
+same-length-17 : tie.Need-same-length-17
+same-length-17 c = let t : tie.After-choose = c .before .before in scanned (counted (chose t)) .scan .kept .1 .1 .1 .1 .1 .1 .0
+
 same-length-18 : tie.Need-same-length-18
-same-length-18 c = let t : tie.After-choose = c .before .before .before .before in scanned (counted (chose t)) .scan .kept .1 .1 .1 .1 .0
+same-length-18 c = let t : tie.After-choose = c .before .before in scanned (counted (chose t)) .scan .kept .1 .1 .1 .1 .1 .1 .1 .0
 
 same-length-19 : tie.Need-same-length-19
-same-length-19 c = let t : tie.After-choose = c .before .before .before .before in scanned (counted (chose t)) .scan .kept .1 .1 .1 .1 .1 .0
+same-length-19 c = let t : tie.After-choose = c .before .before in scanned (counted (chose t)) .scan .kept .1 .1 .1 .1 .1 .1 .1 .1 .0
 
 same-length-20 : tie.Need-same-length-20
-same-length-20 c = let t : tie.After-choose = c .before .before .before .before in scanned (counted (chose t)) .scan .kept .1 .1 .1 .1 .1 .1 .0
+same-length-20 c = let t : tie.After-choose = c .before .before in counted (chose t) .count-pass .kept .1 .1 .1 .1 .1 .1 .1 .1 .0
 
 same-length-21 : tie.Need-same-length-21
-same-length-21 c = let t : tie.After-choose = c .before .before .before .before in scanned (counted (chose t)) .scan .kept .1 .1 .1 .1 .1 .1 .1 .0
+same-length-21 c = let t : tie.After-choose = c .before .before in counted (chose t) .count-pass .kept .1 .1 .1 .1 .1 .1 .1 .1 .1 .0
 
 same-length-22 : tie.Need-same-length-22
-same-length-22 c = let t : tie.After-choose = c .before .before .before .before in scanned (counted (chose t)) .scan .kept .1 .1 .1 .1 .1 .1 .1 .1 .0
+same-length-22 c = let t : tie.After-choose = c .before .before in counted (chose t) .count-pass .kept .1 .1 .1 .1 .1 .1 .1 .1 .1 .1 .0
 
 same-length-23 : tie.Need-same-length-23
-same-length-23 c = let t : tie.After-choose = c .before .before .before .before in scanned (counted (chose t)) .scan .kept .1 .1 .1 .1 .1 .1 .1 .1 .1 .0
+same-length-23 c = let t : tie.After-choose = c .before .before in counted (chose t) .count-pass .kept .1 .1 .1 .1 .1 .1 .1 .1 .1 .1 .1 .0
 
 same-length-24 : tie.Need-same-length-24
-same-length-24 c = let t : tie.After-choose = c .before .before .before .before in scanned (counted (chose t)) .scan .kept .1 .1 .1 .1 .1 .1 .1 .1 .1 .1 .0
+same-length-24 c = let t : tie.After-choose = c .before .before in counted (chose t) .count-pass .kept .1 .1 .1 .1 .1 .1 .1 .1 .1 .1 .1 .1 .0
 
 same-length-25 : tie.Need-same-length-25
-same-length-25 c = let t : tie.After-choose = c .before .before .before .before in scanned (counted (chose t)) .scan .kept .1 .1 .1 .1 .1 .1 .1 .1 .1 .1 .1 .0
+same-length-25 c = let t : tie.After-choose = c .before .before in counted (chose t) .count-pass .kept .1 .1 .1 .1 .1 .1 .1 .1 .1 .1 .1 .1 .1 .0
 
 same-length-26 : tie.Need-same-length-26
-same-length-26 c = let t : tie.After-choose = c .before .before .before .before in counted (chose t) .count-pass .kept .1 .1 .1 .1 .1 .1 .1 .1 .0
+same-length-26 c = let t : tie.After-choose = c .before .before in counted (chose t) .count-pass .kept .1 .1 .1 .1 .1 .1 .1 .1 .1 .1 .1 .1 .1 .1 .0
 
 same-length-27 : tie.Need-same-length-27
-same-length-27 c = let t : tie.After-choose = c .before .before .before .before in counted (chose t) .count-pass .kept .1 .1 .1 .1 .1 .1 .1 .1 .1 .0
+same-length-27 c = let t : tie.After-choose = c .before .before in counted (chose t) .count-pass .kept .1 .1 .1 .1 .1 .1 .1 .1 .1 .1 .1 .1 .1 .1 .1 .0
 
 same-length-28 : tie.Need-same-length-28
-same-length-28 c = let t : tie.After-choose = c .before .before .before .before in counted (chose t) .count-pass .kept .1 .1 .1 .1 .1 .1 .1 .1 .1 .1 .0
+same-length-28 c = let t : tie.After-choose = c .before .before in counted (chose t) .count-pass .kept .1 .1 .1 .1 .1 .1 .1 .1 .1 .1 .1 .1 .1 .1 .1 .1 .0
 
 same-length-29 : tie.Need-same-length-29
-same-length-29 c = let t : tie.After-choose = c .before .before .before .before in counted (chose t) .count-pass .kept .1 .1 .1 .1 .1 .1 .1 .1 .1 .1 .1 .0
-
-same-length-30 : tie.Need-same-length-30
-same-length-30 c = let t : tie.After-choose = c .before .before .before .before in counted (chose t) .count-pass .kept .1 .1 .1 .1 .1 .1 .1 .1 .1 .1 .1 .1 .0
-
-same-length-31 : tie.Need-same-length-31
-same-length-31 c = let t : tie.After-choose = c .before .before .before .before in counted (chose t) .count-pass .kept .1 .1 .1 .1 .1 .1 .1 .1 .1 .1 .1 .1 .1 .0
-
-same-length-32 : tie.Need-same-length-32
-same-length-32 c = let t : tie.After-choose = c .before .before .before .before in counted (chose t) .count-pass .kept .1 .1 .1 .1 .1 .1 .1 .1 .1 .1 .1 .1 .1 .1 .0
-
-same-length-33 : tie.Need-same-length-33
-same-length-33 c = let t : tie.After-choose = c .before .before .before .before in counted (chose t) .count-pass .kept .1 .1 .1 .1 .1 .1 .1 .1 .1 .1 .1 .1 .1 .1 .1 .0
-
-same-length-34 : tie.Need-same-length-34
-same-length-34 c = let t : tie.After-choose = c .before .before .before .before in counted (chose t) .count-pass .kept .1 .1 .1 .1 .1 .1 .1 .1 .1 .1 .1 .1 .1 .1 .1 .1 .0
-
-same-length-35 : tie.Need-same-length-35
-same-length-35 c = let t : tie.After-choose = c .before .before .before .before in t .choose .kept .1 .1 .1 .1 .1 .1 .1 .1 .1 .1 .1 .0
-
-same-length-36 : tie.Need-same-length-36
-same-length-36 c = let t : tie.After-choose = c .before .before .before .before in t .choose .kept .1 .1 .1 .1 .1 .1 .1 .1 .1 .1 .1 .1 .0
+same-length-29 c = let t : tie.After-choose = c .before .before in t .choose .kept .1 .1 .1 .1 .1 .1 .1 .1 .1 .1 .1 .0
 
 returns-2 : tie.Need-returns-2
 returns-2 c =
-    let u : tie.After-choose = c .before .before .before .before in
+    let u : tie.After-choose = c .before .before in
     let e = chose u in
     let d = counted e in
     let t = scanned d in
@@ -310,10 +286,10 @@ returns-2 c =
     record {
       no-set = λ h. absurd (no-both h (e .if1 .left));
       plan = λ h.
-          planned (now (a .nodes)) (now (a .wires)) (now (a .obstacles)) (a .stage) (right s) (Lo t) (Hi t) (Host t) (Fixed t) (Gates t) (λ i. getD (Root t) i 0) (λ i. getD (Component t) i 0)
-          (t .scan .ensures .0) (a .limit) (t .scan .ensures .1 .0) (t .scan .ensures .1 .1)
+          planned (now (a .nodes)) (now (a .wires)) (now (a .obstacles)) (a .stage) (right s) (Lo t) (Hi t) (Host t) (Fixed t) (Gates t) (t .scan .ensures .0 .0) (t .scan .ensures .0 .1)
+          (t .scan .ensures .0 .2) (a .limit) (t .scan .ensures .1 .0) (t .scan .ensures .1 .1)
           (Cut d) (Fewest d) (Any d) (Anyweight d) (Count d) (Lightest d) (Ungatable d) (Ungated d) (Near d) (worked e)
-          (u .choose .last .1 .1 .1 .1 .1 .1 .1 .1 .1 .1 .1 .0) (u .choose .last .1 .1 .1 .1 .1 .1 .1 .1 .1 .1 .1 .1 .0) (λ r p. u .choose .ensures r (omega (arith, nodes-are t))) (d .count-pass .result .points)
+          (u .choose .ensures .0) (u .choose .last .1 .1 .1 .1 .1 .1 .1 .1 .1 .1 .1 .0) (λ r p. u .choose .ensures .1 r (omega (arith, nodes-are t))) (d .count-pass .result .points)
           (subst (λ (m : ℕ). d .count-pass .result .points ≡ rootSum m (Lo t) (Fewest d)) (nodes-are t) (d .count-pass .ensures .1 .1 h));
     }
 
@@ -338,11 +314,11 @@ run-spec =
     same-length-12
     same-length-13
     same-length-14
+    returns
+    choose-requires
     same-length-15
     same-length-16
     same-length-17
-    returns
-    choose-requires
     same-length-18
     same-length-19
     same-length-20
@@ -355,11 +331,4 @@ run-spec =
     same-length-27
     same-length-28
     same-length-29
-    same-length-30
-    same-length-31
-    same-length-32
-    same-length-33
-    same-length-34
-    same-length-35
-    same-length-36
     returns-2)
