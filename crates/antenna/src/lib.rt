@@ -1,8 +1,8 @@
 // The public calls of the desk as C exports. Each takes any input and carries the whole promise of the call behind it.
 use net::Answer;
 use net::answers::answered;
+use net::call::call_refusal;
 use net::sections;
-use records::report::call_refusal;
 use repairs::judge;
 ghost use mathlib.Core.Path.{_≡_};
 ghost use lib.ListN.{length};

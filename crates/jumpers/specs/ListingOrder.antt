@@ -1,35 +1,22 @@
 -- Entries added behind a list one by one: the list stays rising, and its set gains a point with each.
 -- Assumes nothing.
-use Prim.Native.Nat.{ℕ, zero, suc, _+_, _*_, _/_, _%_, _≤_, _<_}
+use Prim.Native.Nat.{ℕ, suc, _+_, _*_, _≤_, _<_}
 use mathlib.Core.Path.{_≡_, refl, sym, _∙_, ap}
 use mathlib.Core.Bool.{Bool, true, false, _&&_, _||_, cond}
 use mathlib.Core.Logic.{_⊎_, inl, inr, ⊎-elim}
 use mathlib.Core.List.{List, [], _++_, append-nil}
 use native.Mathlib.Omega.{arith}
-use native.Mathlib.Nat.{mod-eq-of-lt, div-add-mod, div-lt-iff-lt-mul, add-zero}
+use native.Mathlib.Nat.{add-zero}
 use native.Mathlib.Numerals.{add-one}
-use lib.Dec.{eqb, lit<}
+use lib.Dec.{eqb}
 use lib.ListN.{length, getD, length-append, List·getD-append}
 use lib.Seq.{getD-append-add}
 use Rattle.laws.specs.Sum.{χ, any}
-use Rattle.laws.specs.Sums.{last-or-below}
+use Rattle.laws.specs.Sums.{last-or-below, any-ap}
+use Rattle.laws.specs.Numbers.{le16-bytes16}
 use Rattle.net.specs.Layout.{entryBytes}
 use Rattle.pieces.specs.Legal.{entryWire, entryPosition, listed, Rises, by-wire, by-position}
 use Rattle.jumpers.specs.Listing.{entry, entryIf}
-
--- the number of two bytes of its own
-le16-bytes16 : (n : ℕ) → n < 65536 → n % 256 + 256 * (n / 256 % 256) ≡ n
-le16-bytes16 n h =
-    let q : n / 256 < 256 = div-lt-iff-lt-mul (lit< tt) .1 h in
-    let e = mod-eq-of-lt q in
-    let d = div-add-mod n 256 in
-    omega arith
-
-any-ap : (n : ℕ) {f g : ℕ → Bool} → ((i : ℕ) → i < n → f i ≡ g i) → any n f ≡ any n g
-unfolding any
-any-ap zero h = refl
-any-ap (suc n) {f} {g} h =
-    let a : any n f ≡ any n g = any-ap n (λ i p. h i (omega arith)) in rw (a, h n (omega arith))
 
 -- m entries that rise, all before position p of wire w
 pub record Ahead (list : List ℕ) (m w p : ℕ) : Type 0 where

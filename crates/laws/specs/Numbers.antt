@@ -75,6 +75,13 @@ pub bytes-drop : (n : ℕ) (l : List ℕ) → Bytes l → Bytes (drop n l)
 bytes-drop n l b i = rw (getD-drop n l i 0) (b (n + i))
 
 -- the number of its own bytes
+pub le16-bytes16 : (n : ℕ) → n < 65536 → n % 256 + 256 * (n / 256 % 256) ≡ n
+le16-bytes16 n h =
+    let q : n / 256 < 256 = div-lt-iff-lt-mul (lit< tt) .1 h in
+    let e = mod-eq-of-lt q in
+    let d = div-add-mod n 256 in
+    omega arith
+
 pub le32-bytes32 : (n : ℕ) → n < 4294967296
     → n % 256 + 256 * (n / 256 % 256) + 65536 * (n / 65536 % 256) + 16777216 * (n / 16777216 % 256) ≡ n
 le32-bytes32 n h =

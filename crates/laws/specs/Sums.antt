@@ -1,8 +1,8 @@
--- Laws of sums with a test, of `any`, and of the lowest and highest number that passes a test.
+-- Laws of tests, of sums with a test, of `any`, and of the lowest and highest number that passes a test.
 -- Assumes nothing.
 use Prim.Native.Nat.{ℕ, zero, suc, _+_, _-_, _*_, _≤_, _<_}
 use mathlib.Core.Path.{_≡_, refl, sym, _∙_, ap}
-use mathlib.Core.Bool.{Bool, true, false, not, _&&_, _||_, cond, false≢true, true≢false}
+use mathlib.Core.Bool.{Bool, true, false, not, _&&_, _||_, true≢false}
 use mathlib.Core.Logic.{_⊎_, inl, inr, ⊎-elim, _≢_}
 use native.Mathlib.Omega.{arith}
 use native.Mathlib.Nat.{mul-add, mul-zero}
@@ -31,6 +31,31 @@ not-true-false false h = refl
 pub not-false-true : (t : Bool) → (t ≡ false → ⊥) → t ≡ true
 not-false-true true h = refl
 not-false-true false h = absurd (h refl)
+
+-- two tests that imply each other
+pub same-test : (a b : Bool) → (a ≡ true → b ≡ true) → (b ≡ true → a ≡ true) → a ≡ b
+same-test true true p q = refl
+same-test true false p q = absurd (no-both (p refl) refl)
+same-test false true p q = absurd (no-both (q refl) refl)
+same-test false false p q = refl
+
+pub and-true : (a : Bool) → (a && true) ≡ a
+and-true true = refl
+and-true false = refl
+
+pub and-false : (a : Bool) → (a && false) ≡ false
+and-false true = refl
+and-false false = refl
+
+pub and-comm : (a b : Bool) → (a && b) ≡ (b && a)
+and-comm true true = refl
+and-comm true false = refl
+and-comm false true = refl
+and-comm false false = refl
+
+pub or-false : (a : Bool) {b : Bool} → b ≡ false → (a || b) ≡ a
+or-false true h = refl
+or-false false h = h
 
 pub and-left : (a b : Bool) → (a && b) ≡ true → a ≡ true
 and-left true b h = refl
@@ -299,6 +324,16 @@ pub sum-next-≤ : (i n : ℕ) (f : ℕ → ℕ) → i < n → sum i f + f i ≤
 sum-next-≤ i n f p = let a = sum-next i f in let b = sum-more (i + 1) n f (omega arith) in omega arith
 
 -- ---- any
+pub any-ap : (n : ℕ) {f g : ℕ → Bool} → ((i : ℕ) → i < n → f i ≡ g i) → any n f ≡ any n g
+unfolding any
+any-ap zero h = refl
+any-ap (suc n) {f} {g} h = rw (any-ap n {f = f} {g = g} (λ i p. h i (omega arith)), h n (omega arith))
+
+-- one more number, as a loop tests it
+pub any-next : (n : ℕ) (f : ℕ → Bool) → any (n + 1) f ≡ (any n f || f n)
+unfolding any
+any-next n f = rw (add-one n)
+
 pub any-yes : (n i : ℕ) (f : ℕ → Bool) → i < n → f i ≡ true → any n f ≡ true
 unfolding any
 any-yes zero i f p h = absurd (native.Mathlib.Nat.lt-irrefl 0 (omega arith))

@@ -1,6 +1,6 @@
 -- A file is accepted if and only if its head, pairs, sections, nodes, wires and obstacles are right: reading meets none of 2 to 11.
 -- Assumes nothing.
-use Prim.Native.Nat.{ℕ, _+_, _-_, _%_, _<_}
+use Prim.Native.Nat.{ℕ, _+_, _-_}
 use mathlib.Core.Path.{_≡_, refl, sym, ap}
 use mathlib.Core.Bool.{Bool, true, false, not, _&&_}
 use mathlib.Core.List.{List}
@@ -65,7 +65,7 @@ module _ (f : List ℕ) where
         ← pairs-right f (h .nodes-at) (h .wires-at) (h .obstacles-at) (h .end-at),
       )
 
-  file-right-of : met (readRefusal f) ≡ false → FileRight f
+  pub file-right-of : met (readRefusal f) ≡ false → FileRight f
   unfolding readRefusal
   file-right-of u =
       let net = netRefusal (nodesOf f) (wiresOf f) (obstaclesOf f) in

@@ -9,5 +9,6 @@ pub mod Reading
 pub mod Writing
 pub mod Accepted
 pub mod AcceptedIf
+pub mod Calls
 pub mod Parts
 pub mod RoundTrip

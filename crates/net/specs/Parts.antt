@@ -1,15 +1,15 @@
 -- The parts of a file: of one made of three sections, and of one that is right.
 -- Assumes nothing.
-use Prim.Native.Nat.{ℕ, zero, suc, _+_, _-_, _*_, _<_, _≤_}
-use mathlib.Core.Path.{_≡_, _∙_, refl, sym, ap}
-use mathlib.Core.List.{List, [], _∷_, _++_, append-assoc}
+use Prim.Native.Nat.{ℕ, _+_, _<_, _≤_}
+use mathlib.Core.Path.{_≡_, _∙_, refl}
+use mathlib.Core.List.{List, _++_, append-assoc}
 use native.Mathlib.Omega.{arith}
-use lib.ListN.{length, take, drop, getD, length-take, length-drop, take-append-drop}
+use lib.ListN.{length, take, drop, length-take, length-drop, take-append-drop}
 use lib.Seq.{length-take-le, take-add, take-at, drop-at, take-all, drop-drop}
 use Rattle.laws.specs.Bytes.{Bytes, le32, bytes16, bytes32}
 use Rattle.laws.specs.Numbers.{bytes16-here, bytes32-here, le32-bytes32, bytes-take, bytes-drop}
 use Rattle.net.specs.Layout.{headBytes}
-use Rattle.net.specs.File.{version, pairCount, offset, extent, stretch, headOf, fileOf, fileBytes}
+use Rattle.net.specs.File.{version, pairCount, offset, extent, stretch, headOf, fileOf}
 use Rattle.net.specs.Writing.{head-length, wires-after, obstacles-after, file-length}
 use Rattle.net.specs.Accepted.{HeadRight}
 

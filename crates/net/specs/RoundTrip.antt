@@ -2,7 +2,6 @@
 -- Assumes nothing.
 use Prim.Native.Nat.{ℕ, zero, suc, _+_, _-_, _*_, _<_, _≤_}
 use mathlib.Core.Path.{_≡_, _∙_, refl, sym, ap}
-use mathlib.Core.Bool.{false}
 use mathlib.Core.List.{List, _++_}
 use native.Mathlib.Nat.{add-zero}
 use native.Mathlib.Omega.{arith}
@@ -13,11 +12,11 @@ use Rattle.laws.specs.Lists.{over}
 use Rattle.laws.specs.Numbers.{le16-low, le16-high, same-records}
 use Rattle.net.specs.Layout.{headBytes, nodeBytes, wireBytes, obstacleBytes}
 use Rattle.net.specs.Net.{nodeCount, nodeX, nodeY, nodeFlags, wireParent, wireLayer, wireFactor, obstacleCount, obstacleX1, obstacleY1, obstacleX2, obstacleY2}
-use Rattle.net.specs.File.{stretch, fileOf, fileBytes}
-use Rattle.net.specs.Refusal.{none, met, netRefusal, Accepted, sectionOf, nodesOf, wiresOf, obstaclesOf, answer, writeRefusal, writeAnswer, writeBuffer}
+use Rattle.net.specs.File.{fileOf, fileBytes}
+use Rattle.net.specs.Refusal.{none, netRefusal, Accepted, sectionOf, nodesOf, wiresOf, obstaclesOf, answer, writeRefusal, writeAnswer, writeBuffer}
 use Rattle.net.specs.First.{unmet-l, unmet-number}
 use Rattle.net.specs.Reading.{section-stretch}
-use Rattle.net.specs.Accepted.{HeadRight, NetRight, net-right-of}
+use Rattle.net.specs.Accepted.{NetRight, net-right-of}
 use Rattle.net.specs.AcceptedIf.{FileRight, head-unmet, accepted-right, right-accepted, net-none}
 use Rattle.net.specs.Parts.{head-of-written, nodes-of-written, wires-of-written, obstacles-of-written, bytes-section, file-of-sections}
 use Rattle.net.specs.Writing.{file-length, write-done, answer-done, buffer-done}

@@ -1,8 +1,8 @@
 -- A net at a stage, as document 01's "Pieces" sees it: what the definitions of pieces, legal and smallest sets are stated over.
 -- Assumes nothing.
-use Prim.Native.Nat.{ℕ, _+_, _*_, _<_, _≤_}
+use Prim.Native.Nat.{ℕ, _<_}
 use mathlib.Core.Path.{_≡_}
-use mathlib.Core.Bool.{Bool, true, false, _&&_}
+use mathlib.Core.Bool.{Bool, true, _&&_}
 use mathlib.Core.List.{List}
 use lib.Dec.{leb, ltb}
 use Rattle.net.specs.Net.{nodeCount, nodeFlags, isGate, isSource, wireParent, wireLayer, wireFactor, wireLength, barred}

@@ -1,6 +1,7 @@
 // The net of document 01: its files read, refused, handed out in sections and written.
 // Definitions: specs/.
 pub mod answers;
+pub mod call;
 pub mod layout;
 pub mod read;
 pub mod records;

@@ -6,7 +6,7 @@ ghost use mathlib.Core.Path.{_≡_};
 ghost use Prim.Native.Nat.{_+_, _*_, _<_, _≤_};
 ghost use lib.ListN.{length};
 ghost use Rattle.laws.specs.Bytes.{le16, le32};
-ghost use Rattle.net.specs.Layout.{nodeBytes, wireBytes, obstacleBytes};
+ghost use Rattle.net.specs.Layout.{wireBytes};
 ghost use Rattle.net.specs.Net.{nodeCount, nodeX, nodeY, nodeFlags, isGate, isSource, wireParent, wireLayer, wireFactor, obstacleCount, obstacleX1, obstacleY1, obstacleX2, obstacleY2};
 
 // The number of 16 bits of two bytes, the low one first.

@@ -8,7 +8,7 @@ use native.Mathlib.Nat.{mul-zero, sub-zero}
 use lib.Dec.{leb, ltb, eqb}
 use borrow.Author.Tests.{leb-true, lt-ltb, le-ltb, le-leb, lt-leb, ne-eqb}
 use Rattle.laws.specs.Sum.{χ, sum, any, highest}
-use Rattle.laws.specs.Sums.{by, not-true-false, and-left, and-right, and-intro, and-no-left, and-no-right, χ-yes, χ-no, χ-ap, χ-zero, sum-ap, sum-+, sum-zero, sum-one, sum-stretch, highest-passes, highest-none, highest-≥, highest-last}
+use Rattle.laws.specs.Sums.{by, not-true-false, and-true, and-false, and-left, and-right, and-intro, and-no-left, and-no-right, χ-yes, χ-no, χ-ap, χ-zero, sum-ap, sum-+, sum-zero, sum-one, sum-stretch, highest-passes, highest-none, highest-≥, highest-last}
 use Rattle.net.specs.Stage.{Stage, Formed}
 use Rattle.pieces.specs.Piece.{Points, Element, step, Real, a-step, Group, weightOf}
 use Rattle.pieces.specs.Name.{Inside, cutAt, firstJumper, lastJumper, lowestNode, stepNumber, stepPosition, named}
@@ -26,14 +26,6 @@ weight-same s P Q same =
 χ-mul : (t : Bool) (n x : ℕ) → n * χ t x ≡ χ t (n * x)
 χ-mul true n x = refl
 χ-mul false n x = mul-zero n
-
-and-true : (a : Bool) → (a && true) ≡ a
-and-true true = refl
-and-true false = refl
-
-and-false : (a : Bool) → (a && false) ≡ false
-and-false true = refl
-and-false false = refl
 
 -- the name of a real step decides whether it is in a named group
 named-step : (s : Stage) (J : Points) (n p a b i t : ℕ) → Real s (step i t) → stepNumber s J i t ≡ a → stepPosition s J i t ≡ b →

@@ -11,7 +11,7 @@ use lib.Dec.{ltb, eqb}
 use lib.Bits.{bitOr, or-zero-r}
 use borrow.Author.Tests.{lt-ltb, eqb-true, eqb-false}
 use Rattle.laws.specs.Sum.{χ, any}
-use Rattle.laws.specs.Sums.{by, and-no-right, sum-next}
+use Rattle.laws.specs.Sums.{by, and-no-right, sum-next, any-next, and-comm, or-false}
 use Rattle.laws.specs.Masks.{mask, mask-ap, mask-test, mask-or}
 use Rattle.net.specs.Layout.{mostLayers}
 use Rattle.net.specs.Net.{isGate, isSource}
@@ -20,7 +20,6 @@ use Rattle.pieces.specs.Piece.{Points}
 use Rattle.pieces.specs.Name.{Inside, cutAt, firstJumper, lastJumper, lowestNode}
 use Rattle.pieces.specs.Weight.{wireAdds}
 use Rattle.pieces.specs.Jumpers.{first-uncut, first-last}
-use Rattle.records.specs.Tests.{any-next, and-comm, or-false}
 use Rattle.records.specs.Gathered.{flag, stepsIn, weightBelow, flagsBelow, layersBelow, Gathered}
 use Rattle.records.specs.NodeRecords.{layer-mask, two-flags}
 

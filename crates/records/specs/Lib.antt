@@ -1,4 +1,3 @@
-pub mod Tests
 pub mod Gathered
 pub mod NodeRecords
 pub mod Gathering

@@ -9,7 +9,7 @@ use lib.Dec.{ltb, eqb}
 use lib.Count.{ones}
 use borrow.Author.Tests.{ltb-true, lt-ltb, eqb-true, eq-eqb, ne-eqb}
 use Rattle.laws.specs.Sum.{χ, sum, any, lowest}
-use Rattle.laws.specs.Sums.{by, and-left, and-right, and-intro, or-left, or-right, or-cases, any-yes, any-some}
+use Rattle.laws.specs.Sums.{by, and-left, and-right, and-intro, or-left, or-right, or-cases, any-yes, any-some, same-test, any-ap, and-true, and-comm}
 use Rattle.laws.specs.Masks.{mask, mask-ap, mask-one, mask-ones, mask-lowest, mask-none, mask-some}
 use Rattle.net.specs.Layout.{mostLayers}
 use Rattle.net.specs.Net.{isGate, isSource}
@@ -22,7 +22,6 @@ use Rattle.pieces.specs.Jumpers.{first-≤, first-last, above-first-cut, step-c
 use Rattle.pieces.specs.Named.{named-yes, named-number, named-position}
 use Rattle.pieces.specs.Report.{Name, name, groupOf, hasGate, hasSource, isHarmful, flagsOf, hasLayer, layersOf, layerCount, lowestLayer, recordOf}
 use Rattle.records.specs.Record.{lowestOf, fields}
-use Rattle.records.specs.Tests.{same-test, any-ap, and-true, and-comm}
 use Rattle.records.specs.Gathered.{flag, stepsIn, weightBelow, flagsBelow, layersBelow}
 
 -- ---- layers of any group: how many they are and the lowest follow from the mask

@@ -1,23 +1,21 @@
 -- Which answer each ending of the report gives, and what the lent buffer then holds.
 -- Assumes nothing.
 use Prim.Native.Nat.{ℕ, _*_, _%_, _≤_, _<_}
-use mathlib.Core.Path.{_≡_, refl, sym, _∙_}
-use mathlib.Core.Bool.{true, false, not, _||_}
+use mathlib.Core.Path.{_≡_, sym, _∙_}
+use mathlib.Core.Bool.{true, false, not}
 use mathlib.Core.List.{List}
 use native.Mathlib.Nat.{le-of-eq, zero-add}
-use native.Mathlib.Omega.{arith}
 use lib.ListN.{length, replicate, length-replicate, getD-replicate, List·getD-eq-default}
 use lib.Dec.{ltb, eqb}
-use borrow.Author.Tests.{lt-ltb, le-ltb, ltb-true, ltb-false, eqb-true, ne-eqb, not-false}
-use Rattle.laws.specs.Sums.{by, or-no-right}
+use borrow.Author.Tests.{lt-ltb, le-ltb, ltb-true, ltb-false}
+use Rattle.laws.specs.Sums.{by}
 use Rattle.laws.specs.Place.{place}
 use Rattle.net.specs.declared.Refusal.{Refusal}
-use Rattle.net.specs.Layout.{entryBytes, recordBytes, mostLayers}
+use Rattle.net.specs.Layout.{entryBytes, recordBytes}
 use Rattle.net.specs.Stage.{Stage}
-use Rattle.net.specs.Refusal.{none, refusal, met, refusedIf, firstOf, lentRefusal, answer, stageRefusal, readRefusal, readAnswer, netRefusal, nodesOf, wiresOf, obstaclesOf}
+use Rattle.net.specs.Refusal.{none, refusal, met, refusedIf, firstOf, lentRefusal, answer}
 use Rattle.net.specs.Call.{netAt, callRefusal}
-use Rattle.net.specs.AcceptedIf.{net-none, accepted-right, answer-accepted}
-use Rattle.net.specs.First.{none-or, first-unmet, first-none, first-met, unmet-if, unmet-l, unmet-r, unmet-number}
+use Rattle.net.specs.First.{none-or, first-unmet, first-none, first-met, unmet-number}
 use Rattle.pieces.specs.JumperList.{entryCount, entryRefusal, listRefusal}
 use Rattle.pieces.specs.Report.{reportOf}
 use Rattle.pieces.specs.Reports.{report-length}
@@ -120,39 +118,3 @@ module _ (stage : ℕ) (file list : List ℕ) (limit : ℕ) (out : List ℕ) whe
     pub pieces-report-buffer : piecesBuffer (netAt file stage) limit list out ≡ reportBuffer stage limit file list out
     unfolding reportBuffer piecesBuffer
     pieces-report-buffer = rw then-pieces
-
--- 1
-pub stage-low : refusal 1 0 ≡ stageRefusal 0
-unfolding stageRefusal
-stage-low = refl
-
-pub stage-high : (stage : ℕ) → mostLayers < stage → refusal 1 0 ≡ stageRefusal stage
-unfolding stageRefusal
-stage-high stage h = rw (ne-eqb stage 0 (λ e. omega arith), lt-ltb mostLayers stage h)
-
-pub stage-right : (stage : ℕ) → (stage ≡ 0 → ⊥) → stage ≤ mostLayers → none ≡ stageRefusal stage
-unfolding stageRefusal
-stage-right stage n h = rw (ne-eqb stage 0 n, le-ltb mostLayers stage h)
-
--- a file whose reading meets none has a net that meets none
-pub net-accepted : (file : List ℕ) → readRefusal file .number ≡ 0 → netRefusal (nodesOf file) (wiresOf file) (obstaclesOf file) ≡ none
-unfolding readAnswer answer
-net-accepted file e =
-    sym (net-none (nodesOf file) (wiresOf file) (obstaclesOf file) (accepted-right file (answer-accepted file e) .net))
-
--- a call that meets none of 1 to 11
-module _ (stage : ℕ) (file : List ℕ) (e : callRefusal stage file .number ≡ 0) where
-  pub call-unmet : met (callRefusal stage file) ≡ false
-  call-unmet = unmet-number (callRefusal stage file) e
-
-  pub call-stage : stage ≤ mostLayers
-  unfolding stageRefusal
-  call-stage =
-      ltb-false mostLayers stage
-      (or-no-right (eqb stage 0) (ltb mostLayers stage)
-      (unmet-if (eqb stage 0 || ltb mostLayers stage) 1 0 refl (unmet-l (stageRefusal stage) (readRefusal file) call-unmet)))
-
-  pub call-net : netRefusal (nodesOf file) (wiresOf file) (obstaclesOf file) ≡ none
-  call-net =
-      net-accepted file
-      (eqb-true (readRefusal file .number) 0 (not-false (eqb (readRefusal file .number) 0) (unmet-r (stageRefusal stage) (readRefusal file) call-unmet)))

@@ -9,7 +9,7 @@ use native.Mathlib.Omega.{arith}
 use lib.Dec.{ltb, eqb}
 use borrow.Author.Tests.{ltb-true, lt-ltb, eqb-true, eq-eqb, ne-eqb}
 use Rattle.laws.specs.Sum.{any}
-use Rattle.laws.specs.Sums.{and-left, and-right, and-intro, and-no-right, any-yes, any-none, any-some, last-or-below, highest-last}
+use Rattle.laws.specs.Sums.{and-left, and-right, and-intro, and-no-right, any-yes, any-none, any-some, last-or-below, highest-last, same-test, or-false}
 use Rattle.laws.specs.Masks.{mask-ap}
 use Rattle.laws.specs.Gather.{only, gather}
 use Rattle.net.specs.Layout.{mostLayers}
@@ -22,7 +22,6 @@ use Rattle.pieces.specs.Jumpers.{first-least, last-most, number-mid, position-m
 use Rattle.pieces.specs.Named.{named-yes, stretch-no-node, named-stretch}
 use Rattle.pieces.specs.Report.{name, stretchNames, hasGate, hasSource, isHarmful, flagsOf, hasLayer, layersOf, recordOf}
 use Rattle.records.specs.Record.{fields}
-use Rattle.records.specs.Tests.{same-test, or-false}
 use Rattle.records.specs.NodeRecords.{record-fields, layer-mask}
 use Rattle.records.specs.Entries.{EntriesFree, Rising}
 use Rattle.records.specs.EntriesOfWire.{OfWire, entry-jumper, jumper-entry, positions-rise, position-inside, of-wire-last}

@@ -4,14 +4,12 @@ use crate::count::piece_count;
 use crate::gather::gather;
 use crate::listing::write_records;
 use net::Answer;
-use net::Refusal;
 use net::answers::answered;
 use net::answers::none;
 use net::answers::refused;
-use net::layout::MOST_LAYERS;
+use net::call::call_refusal;
 use net::layout::MOST_NODES;
 use net::layout::RECORD_BYTES;
-use net::read::read_refusal;
 use net::sections;
 ghost use mathlib.Core.Path.{_≡_};
 ghost use mathlib.Core.List.{List};
@@ -19,7 +17,6 @@ ghost use Prim.Native.Nat.{ℕ};
 ghost use lib.ListN.{length};
 ghost use Rattle.net.specs.Stage.{stageOf};
 ghost use Rattle.net.specs.Refusal.{none, netRefusal};
-ghost use Rattle.net.specs.Call.{callRefusal};
 ghost use Rattle.records.specs.Promise.{piecesAnswer, piecesBuffer, reportAnswer, reportBuffer};
 ghost use Rattle.records.specs.Judged.{Judged, Accepted};
 
@@ -90,19 +87,6 @@ fn pieces(
         return answered(r, 0);
     }
     write_pieces(stage, limit, nodes, wires, jumpers, out)
-}
-
-// What is tried first: 1 on the stage, 2 to 11 on the file.
-pub fn call_refusal(stage: u32, file: &[u8]) -> Refusal
-    ensures { λ r. ⌜ r ≡ callRefusal stage (now (file .entry)) ⌝ }
-{
-    if stage == 0 {
-        return refused(1, 0);
-    }
-    if (MOST_LAYERS as u32) < stage {
-        return refused(1, 0);
-    }
-    read_refusal(file)
 }
 
 // The report on a net file at a stage: 1, 2 to 11, 12 to 14, 16, or the records.

@@ -1,13 +1,13 @@
 -- A test that decides whether a set is legal, and every set of no, one or two points: for nets small enough to compute.
 -- Assumes nothing.
-use Prim.Native.Nat.{ℕ, zero, suc, _+_, _≤_, _<_}
-use mathlib.Core.Path.{_≡_, refl, sym, _∙_, ap, subst, fun-ext}
+use Prim.Native.Nat.{ℕ, _≤_, _<_}
+use mathlib.Core.Path.{_≡_, refl, _∙_, ap, subst, fun-ext}
 use mathlib.Core.Bool.{Bool, true, false, not, _&&_, _||_}
 use lib.Dec.{ltb, eqb}
 use native.Mathlib.Omega.{arith}
-use borrow.Author.Tests.{eqb-true, eqb-false, eq-eqb, lt-ltb, le-ltb, ltb-false, not-true}
+use borrow.Author.Tests.{eqb-true, eqb-false, eq-eqb, le-ltb, ltb-false, not-true}
 use Rattle.laws.specs.Sum.{any}
-use Rattle.laws.specs.Sums.{by, no-both, and-left, and-right, and-intro, and-no-right, any-none, any-no, any-yes, any-some, not-true-false, not-false-true}
+use Rattle.laws.specs.Sums.{by, no-both, and-left, and-right, and-intro, any-none, any-no, any-yes, any-some, not-true-false, not-false-true}
 use Rattle.net.specs.Stage.{Stage, Formed}
 use Rattle.pieces.specs.Piece.{Points}
 use Rattle.pieces.specs.Legal.{Free, Legal, NoneLegal, size}

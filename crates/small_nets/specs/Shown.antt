@@ -1,10 +1,10 @@
 -- The table of document 01's small nets holds: sets of no, one and two points are computed; the two refusals 15 of net A go by the ends of its wire.
 -- Assumes nothing.
-use Prim.Native.Nat.{ℕ, zero, suc, _+_, _-_, _*_, _≤_, _<_}
-use mathlib.Core.Path.{_≡_, refl, sym, _∙_, ap, subst, fun-ext}
-use mathlib.Core.Bool.{Bool, true, false, not, _&&_, _||_, cond}
-use mathlib.Core.List.{List, [], _∷_}
-use lib.Dec.{ltb, leb, eqb}
+use Prim.Native.Nat.{ℕ, zero, suc, _-_, _*_, _≤_, _<_}
+use mathlib.Core.Path.{_≡_, refl, subst, fun-ext}
+use mathlib.Core.Bool.{true, false, not}
+use mathlib.Core.List.{List, []}
+use lib.Dec.{leb, eqb}
 use native.Mathlib.Omega.{arith}
 use borrow.Author.Tests.{eq-eqb, le-leb}
 use Rattle.laws.specs.Sum.{χ, sum, any, lowest, highest}

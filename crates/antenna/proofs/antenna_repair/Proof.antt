@@ -1,12 +1,12 @@
 -- `antenna::antenna_repair` meets its contract: the first refusals as they are tried, then what repair on an accepted net promises.
 -- Assumes nothing.
-use mathlib.Core.Path.{_≡_, refl, _∙_, ap}
+use mathlib.Core.Path.{refl, _∙_, ap}
 use native.Mathlib.Omega.{arith}
 use Rattle.laws.specs.Sums.{no-both}
 use Rattle.net.specs.declared.Refusal.{Refusal}
 use Rattle.net.specs.Refusal.{answer}
 use Rattle.net.specs.First.{met-number}
-use Rattle.records.specs.Reporting.{call-unmet, call-stage, call-net}
+use Rattle.net.specs.Calls.{call-unmet, call-stage, call-net}
 use borrow.Author.Needs.{needs}
 use Rattle.antenna.proofs.antenna_repair.Statement.{statement}
 use Rattle.antenna.proofs.antenna_repair.Tie as tie

@@ -8,7 +8,7 @@ use mir.Syntax.{w32}
 use native.Mathlib.Omega.{arith}
 use mathlib.Core.Bool.{true}
 use mathlib.Core.Path.{_≡_}
-use Prim.Native.Nat.{ℕ, _-_, _<_, _≤_}
+use Prim.Native.Nat.{ℕ, _<_, _≤_}
 use borrow.Author.Needs.{needs}
 use Rattle.points.proofs.highest_free.Statement.{statement}
 use Rattle.points.proofs.highest_free.Tie as tie

@@ -7,7 +7,7 @@ use Rattle.net.specs.Net.{nodeCount}
 use Rattle.net.specs.Refusal.{none, met, firstOf, nodeRefusal}
 use Rattle.net.specs.Reading.{node-flags, node-right}
 use Rattle.net.specs.First.{first-start, first-more, first-here, first-all}
-use mathlib.Core.Path.{_≡_, _∙_, sym}
+use mathlib.Core.Path.{_≡_, _∙_}
 use Rattle.net.specs.Refusal.{none, firstOf, nodeRefusal}
 use Rattle.net.specs.First.{first-start, first-more, first-here}
 use borrow.Author.Needs.{needs}

@@ -1,7 +1,7 @@
 -- `net::read::read_refusal` meets its contract.
 -- Assumes nothing.
 use mathlib.Core.Path.{_∙_, ap, sym}
-use Rattle.net.specs.Refusal.{met, netRefusal}
+use Rattle.net.specs.Refusal.{met}
 use Rattle.net.specs.First.{met-number, unmet-number}
 use Rattle.net.specs.Reading.{read-head, read-net}
 use borrow.Author.Needs.{needs}

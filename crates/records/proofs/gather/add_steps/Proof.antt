@@ -10,8 +10,7 @@ use lib.Pow.{shl-exact}
 use lib.Bits.{or-zero-r}
 use borrow.Author.Tests.{lt-ltb, le-ltb}
 use borrow.Author.Needs.{needs}
-use Rattle.laws.specs.Sums.{and-no-right}
-use Rattle.records.specs.Tests.{and-true}
+use Rattle.laws.specs.Sums.{and-no-right, and-true}
 use Rattle.records.specs.Gathering.{set-or, set-add}
 use Rattle.records.proofs.gather.add_steps.Statement.{statement}
 use Rattle.records.proofs.gather.add_steps.Tie as tie

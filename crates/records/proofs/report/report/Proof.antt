@@ -4,7 +4,8 @@ use mathlib.Core.Path.{_∙_}
 use native.Mathlib.Omega.{arith}
 use borrow.Author.Needs.{needs}
 use Rattle.net.specs.First.{met-number}
-use Rattle.records.specs.Reporting.{call-refused-answer, call-refused-buffer, pieces-report-answer, pieces-report-buffer, call-unmet, call-stage, call-net}
+use Rattle.net.specs.Calls.{call-unmet, call-stage, call-net}
+use Rattle.records.specs.Reporting.{call-refused-answer, call-refused-buffer, pieces-report-answer, pieces-report-buffer}
 use Rattle.records.proofs.report.report.Statement.{statement}
 use Rattle.records.proofs.report.report.Tie as tie
 
