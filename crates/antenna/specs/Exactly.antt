@@ -1,22 +1,26 @@
 -- What follows from repair's promise on an accepted net: 15 exactly when no set is legal; 16 exactly when a smallest legal set needs more bytes than lent,
--- and then its place is that number of bytes; otherwise the count is that of a smallest legal set. The three exclude each other.
+-- and then its place is that number of bytes; otherwise the count is that of a smallest legal set. The three exclude each other. 1,530 bytes are always enough.
 -- Assumes nothing.
-use Prim.Native.Nat.{ℕ, suc, _*_, _≤_, _<_}
+use Prim.Native.Nat.{ℕ, suc, _-_, _*_, _≤_, _<_}
 use mathlib.Core.Path.{_≡_, refl, sym, _∙_, ap}
 use mathlib.Core.Logic.{_↔_}
+use mathlib.Core.Bool.{false}
 use mathlib.Core.List.{List}
 use lib.ListN.{length}
 use native.Mathlib.Omega.{arith}
 use Rattle.laws.specs.Sums.{by, no-both}
 use Rattle.net.specs.declared.Answer.{Answer}
 use Rattle.net.specs.declared.Refusal.{Refusal}
-use Rattle.net.specs.Layout.{entryBytes}
-use Rattle.net.specs.Stage.{Stage}
-use Rattle.net.specs.Refusal.{answer, none, refusal, met}
+use Rattle.net.specs.Layout.{entryBytes, mostNodes}
+use Rattle.net.specs.Stage.{Stage, stageOf}
+use Rattle.net.specs.Refusal.{answer, none, refusal, met, nodesOf, wiresOf, obstaclesOf}
 use Rattle.net.specs.Call.{netAt, callRefusal}
 use Rattle.net.specs.First.{unmet-number}
+use Rattle.net.specs.Accepted.{formed}
+use Rattle.net.specs.Calls.{call-right}
 use Rattle.pieces.specs.Legal.{size, listed, Smallest, NoneLegal}
 use Rattle.pieces.specs.Size.{listed-size}
+use Rattle.pieces.specs.Outer.{smallest-few}
 use Rattle.jumpers.specs.Promise.{Judged, no-legal-set, too-short, done, Repaired}
 
 -- the count of a smallest list is the number of its points
@@ -104,3 +108,21 @@ list-room {stage} {limit} {file} {out} {after} {r} p zero =
     at (no-legal-set f e k) = absurd (apart 14 0 e)
     at (too-short list n m lt e k) = absurd (apart 15 (entryBytes * n) e)
     at (done list n m le e k) = let c = count-of n e in omega arith
+
+-- bytes for two jumpers on each wire of the largest net
+abbrev pub enoughBytes : ℕ
+enoughBytes = entryBytes * (2 * (mostNodes - 1))
+
+pub enough-is : enoughBytes ≡ 1530
+enough-is = refl
+
+-- with that many bytes lent, an accepted net is never answered with 16
+pub enough :
+    {stage limit : ℕ} {file out after : List ℕ} {r : Answer} →
+    Repaired stage limit file out after r → met (callRefusal stage file) ≡ false → enoughBytes ≤ length out → r .number ≡ 16 → ⊥
+unfolding stageOf
+enough {stage} {limit} {file} {out} {after} {r} p u room e =
+    let w = sixteen (p .judged u) .0 e in
+    let right = call-right stage file u in
+    let few = smallest-few (netAt file stage) (formed (nodesOf file) (wiresOf file) (obstaclesOf file) right stage) limit (w .0) (w .1) (w .2) in
+    native.Mathlib.Nat.lt-irrefl 0 (omega (arith, few, w .3, room, right .sized .few-nodes))

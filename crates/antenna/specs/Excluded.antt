@@ -1,20 +1,18 @@
 -- What repair's promise leaves of an answer where the least number of points is known, and so the answers that it excludes on document 01's small nets.
 -- Assumes nothing.
 use Prim.Native.Nat.{ℕ, _*_, _≤_, _<_}
-use mathlib.Core.Path.{_≡_, refl, sym, _∙_, ap}
-use mathlib.Core.Bool.{false}
+use mathlib.Core.Path.{_≡_, refl, _∙_, ap}
 use mathlib.Core.List.{List, []}
 use lib.ListN.{length}
 use native.Mathlib.Omega.{arith}
-use Rattle.laws.specs.Sum.{any}
 use Rattle.net.specs.declared.Answer.{Answer}
 use Rattle.net.specs.Layout.{entryBytes}
-use Rattle.net.specs.Stage.{Stage, stageOf}
+use Rattle.net.specs.Stage.{Stage}
 use Rattle.net.specs.File.{fileOf, headOf, pairsRight, stretch}
 use Rattle.net.specs.Refusal.{none, refusal, answer, stageRefusal, readRefusal, headRefusal, pairsRefusal, netRefusal, sectionsRefusal, nodeRefusal, wireRefusal, obstacleRefusal, firstOf, sectionOf}
 use Rattle.pieces.specs.Legal.{Smallest, NoneLegal, listed}
 use Rattle.pieces.specs.Size.{listed-size}
-use Rattle.small_nets.specs.Cases.{Least, SmallNets, nodesA, wiresA, nodesJ, wiresJ, nodesC, wiresC, bar}
+use Rattle.small_nets.specs.Cases.{Least, nodesA, wiresA, nodesJ, wiresJ, nodesC, wiresC, bar}
 use Rattle.small_nets.specs.Shown.{small-nets}
 use Rattle.jumpers.specs.Promise.{Judged, no-legal-set, too-short, done, Repaired}
 

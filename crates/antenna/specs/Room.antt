@@ -1,18 +1,16 @@
 -- Done: the records lie in the lent buffer.
 -- Assumes nothing.
 use Prim.Native.Nat.{ℕ, _*_, _≤_}
-use mathlib.Core.Path.{_≡_, refl, sym, _∙_, ap}
-use mathlib.Core.Bool.{true, false, not, cond}
+use mathlib.Core.Path.{_≡_, sym, _∙_, ap}
 use mathlib.Core.List.{List}
-use lib.ListN.{length}
 use lib.Dec.{ltb}
 use native.Mathlib.Omega.{arith}
-use borrow.Author.Tests.{ltb-false, ltb-true}
+use borrow.Author.Tests.{ltb-false}
 use Rattle.laws.specs.Sums.{by, no-both}
 use Rattle.net.specs.declared.Answer.{Answer}
 use Rattle.net.specs.declared.Refusal.{Refusal}
 use Rattle.net.specs.Layout.{recordBytes}
-use Rattle.net.specs.Refusal.{answer, met, orElse, refusedIf, lentRefusal}
+use Rattle.net.specs.Refusal.{answer, lentRefusal}
 use Rattle.net.specs.Call.{netAt, callRefusal}
 use Rattle.net.specs.First.{unmet-number, unmet-r}
 use Rattle.pieces.specs.JumperList.{listRefusal}

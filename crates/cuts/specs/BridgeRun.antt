@@ -61,7 +61,7 @@ module _ (s : Stage) (c : Clusters) (root component : ℕ → ℕ) (formed : For
       ∙ (same (s .parent i) (formed .below i present) ∙ ap component (sym (fits .root-up i p present k))))
       (λ a. ap component (sym (fits .root-own i p a))))
 
-  host-component : (j : ℕ) → j < s .nodes → c .cuttable j ≡ true → component (c .host j) ≡ component j
+  pub host-component : (j : ℕ) → j < s .nodes → c .cuttable j ≡ true → component (c .host j) ≡ component j
   host-component j p k =
       let present = cuttable-present s c root component formed fits j p k in
       ap component (fits .host-is j p k)
@@ -69,7 +69,7 @@ module _ (s : Stage) (c : Clusters) (root component : ℕ → ℕ) (formed : For
       ∙ sym (fits .component-up j p present))
 
   -- a component with a source has no live gate
-  sourced-gateless : (r : ℕ) → r < s .nodes → sourced s component (component r) ≡ true → c .gates r ≡ 0
+  pub sourced-gateless : (r : ℕ) → r < s .nodes → sourced s component (component r) ≡ true → c .gates r ≡ 0
   unfolding liveGate
   sourced-gateless r p src =
       fits .gates-is r p

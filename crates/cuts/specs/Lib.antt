@@ -19,3 +19,4 @@ pub mod BridgeWeight
 pub mod BridgeGood
 pub mod BridgeLegal
 pub mod BridgeRun
+pub mod BridgeAll

@@ -1,6 +1,6 @@
 -- Clusters that differ only in which points of uncuttable wires count as free: what holds of the one holds of the other.
 -- Assumes nothing.
-use Prim.Native.Nat.{ℕ, _≤_, _<_}
+use Prim.Native.Nat.{ℕ, _<_}
 use mathlib.Core.Path.{_≡_, sym, _∙_}
 use mathlib.Core.Bool.{Bool, true}
 use mathlib.Core.Logic.{⊎-map}

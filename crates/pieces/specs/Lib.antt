@@ -13,3 +13,4 @@ pub mod Listed
 pub mod Reports
 pub mod Weight
 pub mod Size
+pub mod Outer

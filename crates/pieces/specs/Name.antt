@@ -1,9 +1,9 @@
 -- Document 01, "Files": how pieces are named. A piece with nodes is named by its lowest node and position 0, another by its wire and the lower of its two
 -- jumper positions. That two elements have one name exactly when they are connected is a theorem.
 -- Assumes nothing.
-use Prim.Native.Nat.{ℕ, zero, suc, _+_, _≤_, _<_}
+use Prim.Native.Nat.{ℕ, zero, suc, _≤_, _<_}
 use mathlib.Core.Path.{_≡_}
-use mathlib.Core.Bool.{Bool, true, false, not, _&&_, cond}
+use mathlib.Core.Bool.{Bool, true, not, _&&_, cond}
 use lib.Dec.{leb, ltb, eqb}
 use Rattle.laws.specs.Sum.{any, lowest, highest}
 use Rattle.net.specs.Stage.{Stage}

@@ -1,6 +1,6 @@
 -- Document 01, "Pieces": what is connected, what a piece is, what it weighs and whether it is harmful.
 -- Over a net at a stage and a set of jumpers. Assumes nothing.
-use Prim.Native.Nat.{ℕ, suc, _+_, _≤_, _<_}
+use Prim.Native.Nat.{ℕ, suc, _≤_, _<_}
 use mathlib.Core.Path.{_≡_}
 use mathlib.Core.Bool.{Bool, true, false}
 use Rattle.laws.specs.Sum.{χ, sum}

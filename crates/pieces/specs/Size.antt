@@ -1,7 +1,7 @@
 -- The number of points of a set: of a list, of a set less a point, of none and of one.
 -- Assumes nothing.
 use Prim.Native.Nat.{ℕ, zero, suc, _+_, _≤_, _<_}
-use mathlib.Core.Path.{_≡_, refl, sym, _∙_, ap, fun-ext}
+use mathlib.Core.Path.{_≡_, refl, _∙_, fun-ext}
 use mathlib.Core.Bool.{Bool, true, false, not, _&&_, _||_}
 use mathlib.Core.List.{List}
 use lib.Dec.{eqb}
@@ -9,7 +9,7 @@ use native.Mathlib.Omega.{arith}
 use native.Mathlib.Nat.{le-trans}
 use borrow.Author.Tests.{eqb-true, eqb-false, ne-eqb, eq-eqb}
 use Rattle.laws.specs.Sum.{χ, sum, any}
-use Rattle.laws.specs.Sums.{by, no-both, and-left, and-right, and-intro, sum-zero, sum-ap, sum-≤, sum-+, term-≤, χ-no, χ-yes, not-true-false, not-false-true}
+use Rattle.laws.specs.Sums.{by, and-left, and-right, and-intro, sum-zero, sum-ap, sum-≤, sum-+, term-≤, χ-no, χ-yes, not-true-false}
 use Rattle.net.specs.Stage.{Stage, Formed}
 use Rattle.pieces.specs.Piece.{Points}
 use Rattle.pieces.specs.Legal.{Free, size, listed, entryWire, entryPosition}
