@@ -1,17 +1,17 @@
 -- The points of a wire that may be cut, from the search along the wire.
 -- Assumes nothing.
-use Prim.Native.Nat.{ℕ, _+_, _-_, _*_, _≤_, _<_}
-use mathlib.Core.Path.{_≡_, refl, sym, _∙_, ap}
-use mathlib.Core.Bool.{Bool, true, false, _&&_}
+use Prim.Native.Nat.{ℕ, _-_, _<_}
+use mathlib.Core.Path.{_≡_, sym, _∙_}
+use mathlib.Core.Bool.{true, false}
 use mathlib.Core.List.{List}
 use native.Mathlib.Omega.{arith}
 use native.Mathlib.Nat.{lt-irrefl}
-use lib.ListN.{length, getD}
-use lib.Dec.{leb, ltb, eqb}
+use lib.ListN.{getD}
+use lib.Dec.{ltb, eqb}
 use borrow.Author.Tests.{ltb-true, ltb-false, eqb-true, eqb-false, lt-ltb}
 use Rattle.laws.specs.Sums.{by, no-both}
-use Rattle.net.specs.Net.{nodeCount, wireLayer, wireLength, barred}
-use Rattle.net.specs.Stage.{Stage, stageOf}
+use Rattle.net.specs.Net.{nodeCount, wireLength, barred}
+use Rattle.net.specs.Stage.{stageOf}
 use Rattle.points.specs.Cuttable.{Checked, Lowest, Highest}
 use Rattle.cuts.specs.Fits.{freeAt}
 use Rattle.cuts.specs.BridgeFits.{free-of, of-free}

@@ -2,7 +2,7 @@
 -- Assumes nothing.
 use Prim.Native.Nat.{ℕ, _+_, _-_, _*_, _^_, _≤_, _<_}
 use mathlib.Core.Path.{_≡_, refl, sym, _∙_, ap}
-use mathlib.Core.Bool.{Bool, true, false, not, _&&_, cond}
+use mathlib.Core.Bool.{Bool, true, false, not, _&&_}
 use mathlib.Core.List.{List}
 use native.Mathlib.Omega.{arith}
 use native.Mathlib.Nat.{mul-le-mul}
@@ -10,18 +10,18 @@ use lib.ListN.{getD}
 use lib.Dec.{ltb, eqb}
 use borrow.Author.Tests.{ltb-true, ltb-false, lt-ltb}
 use Rattle.laws.specs.Sum.{χ, sum}
-use Rattle.laws.specs.Sums.{by, and-left, and-intro, and-no-right, χ-and, sum-ap, sum-+, sum-bound}
-use Rattle.net.specs.Layout.{nodeBytes, wireBytes}
-use Rattle.net.specs.Net.{nodeCount, nodeX, nodeY, nodeFlags, isGate, isSource, wireParent, wireFactor, wireLength}
-use Rattle.net.specs.Stage.{Stage, stageOf, Formed}
+use Rattle.laws.specs.Sums.{by, and-intro, and-no-right, χ-and, sum-ap, sum-+, sum-bound}
+use Rattle.net.specs.Layout.{nodeBytes}
+use Rattle.net.specs.Net.{nodeCount, nodeFlags, isGate, wireParent, wireFactor, wireLength}
+use Rattle.net.specs.Stage.{stageOf, Formed}
 use Rattle.net.specs.Accepted.{NetRight, present-inside, present-positive}
-use Rattle.cuts.specs.Fits.{Fits, freeAt, fixedPart, liveGate, sourced}
+use Rattle.cuts.specs.Fits.{Fits, fixedPart, liveGate, sourced}
 use Rattle.cuts.specs.Bounds.{allWeight, allWeight-≤}
 use Rattle.cuts.specs.BridgeFits.{free-of}
 use Rattle.jumpers.specs.Arrays.{clustersOf}
-use Rattle.jumpers.specs.Scan.{Wired, Ends, Scanned, made, cuttable, whole, Falling, hostOf, sourceIn, gateOf, lowerWeight, upperWeight, gathered}
-use Rattle.jumpers.specs.ScanLaws.{made-positive, made-lower, whole-lower, leads-falling}
-use Rattle.jumpers.specs.ScanEnds.{checked, present-is, inside-of}
+use Rattle.jumpers.specs.Scan.{Wired, Ends, Scanned, made, cuttable, whole, Falling, hostOf, sourceIn, gateOf, lowerWeight, upperWeight}
+use Rattle.jumpers.specs.ScanLaws.{made-lower, leads-falling}
+use Rattle.jumpers.specs.ScanEnds.{checked, present-is}
 use Rattle.points.specs.Geometry.{length-small}
 use Rattle.jumpers.specs.ScanWeights.{Bytes, factor-≤}
 

@@ -1,17 +1,17 @@
 -- One turn of each of the first passes, and what follows of the arrays that they fill.
 -- Assumes nothing.
-use Prim.Native.Nat.{ℕ, _+_, _-_, _*_, _≤_, _<_}
+use Prim.Native.Nat.{ℕ, _+_, _*_, _≤_, _<_}
 use mathlib.Core.Path.{_≡_, refl, sym, _∙_, ap}
-use mathlib.Core.Bool.{Bool, true, false, not, _&&_, _||_, cond}
+use mathlib.Core.Bool.{Bool, true, false, not, _&&_, _||_}
 use mathlib.Core.List.{List}
 use native.Mathlib.Omega.{arith}
 use native.Mathlib.Numerals.{add-one}
 use lib.ListN.{length, getD, set, length-set}
 use lib.Seq.{getD-set-same, getD-set-other}
 use lib.Dec.{leb, ltb, eqb}
-use borrow.Author.Tests.{ltb-true, eqb-true, eqb-false, eq-eqb, ne-eqb}
+use borrow.Author.Tests.{ltb-true, eqb-true, eqb-false, ne-eqb}
 use Rattle.laws.specs.Sum.{χ, sum, any}
-use Rattle.laws.specs.Sums.{by, and-left, and-right, χ-≤, sum-zero, sum-bound, any-none, up}
+use Rattle.laws.specs.Sums.{by, and-left, χ-≤, sum-zero, sum-bound, any-none, up}
 use Rattle.net.specs.Net.{nodeCount, nodeFlags, isGate, isSource, wireParent, wireLayer}
 use Rattle.jumpers.specs.Scan.{Wired, made, cuttable, whole, leader, Leads, Falling, gathered, sourceIn, gateOf}
 

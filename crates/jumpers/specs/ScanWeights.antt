@@ -1,15 +1,13 @@
 -- The weights that wires give to clusters: how large they are, and one turn of the pass that adds them up.
 -- Assumes nothing.
 use Prim.Native.Nat.{ℕ, _+_, _-_, _*_, _≤_, _<_}
-use mathlib.Core.Path.{_≡_, refl, sym, _∙_, ap}
-use mathlib.Core.Bool.{Bool, true, false}
+use mathlib.Core.Path.{_≡_}
 use mathlib.Core.List.{List}
 use native.Mathlib.Omega.{arith}
 use native.Mathlib.Nat.{mul-le-mul}
 use lib.ListN.{length, getD, set, length-set}
-use lib.Dec.{ltb, eqb}
+use lib.Dec.{ltb}
 use borrow.Author.Tests.{ltb-true}
-use Rattle.laws.specs.Sum.{χ}
 use Rattle.laws.specs.Sums.{by}
 use Rattle.net.specs.Layout.{wireBytes}
 use Rattle.net.specs.Net.{nodeCount, wireLength, wireFactor}

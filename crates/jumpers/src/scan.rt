@@ -11,7 +11,7 @@ use points::highest_cuttable;
 use points::length_of;
 use points::lowest_cuttable;
 ghost use mathlib.Core.Path.{_≡_};
-ghost use mathlib.Core.Bool.{Bool, true, false};
+ghost use mathlib.Core.Bool.{true, false};
 ghost use Prim.Native.Nat.{ℕ, _+_, _*_, _^_, _<_, _≤_};
 ghost use lib.ListN.{length, getD};
 ghost use Rattle.net.specs.Layout.{mostNodes, wireBytes};
@@ -20,7 +20,7 @@ ghost use Rattle.net.specs.Stage.{stageOf};
 ghost use Rattle.cuts.specs.Fits.{Fits};
 ghost use Rattle.cuts.specs.Bounds.{allWeight};
 ghost use Rattle.jumpers.specs.Arrays.{clustersOf};
-ghost use Rattle.jumpers.specs.Scan.{Wired, LowestFree, HighestFree, Ends, Inside, made, cuttable, whole, leader, Leads, Falling, hostOf, sourceIn, gateOf, gathered, lowerWeight, upperWeight};
+ghost use Rattle.jumpers.specs.Scan.{Wired, LowestFree, HighestFree, Ends, Inside, made, whole, leader, Leads, Falling, hostOf, sourceIn, gateOf, gathered, lowerWeight, upperWeight};
 
 // Wire i is present at the stage.
 fn is_made(wires: &[u8], stage: u8, i: usize) -> bool

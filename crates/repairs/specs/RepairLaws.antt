@@ -7,23 +7,23 @@ use mathlib.Core.List.{List, _++_}
 use lib.ListN.{length, getD, drop, replicate}
 use lib.Dec.{leb, ltb}
 use native.Mathlib.Omega.{arith}
-use borrow.Author.Tests.{ltb-true, lt-ltb}
+use borrow.Author.Tests.{lt-ltb}
 use Rattle.laws.specs.Sum.{χ, sum}
 use Rattle.laws.specs.Sums.{and-left, sum-bound}
 use Rattle.laws.specs.Lists.{over}
 use Rattle.net.specs.declared.Answer.{Answer}
 use Rattle.net.specs.Layout.{entryBytes}
 use Rattle.net.specs.Refusal.{none, refusal, answer}
-use Rattle.net.specs.Net.{nodeCount, wireFactor, wireLength, barred}
+use Rattle.net.specs.Net.{nodeCount, wireLength, barred}
 use Rattle.net.specs.Stage.{Stage, Formed, stageOf}
 use Rattle.net.specs.Accepted.{NetRight, formed}
 use Rattle.points.specs.Geometry.{checked-of}
 use Rattle.pieces.specs.Legal.{Smallest, NoneLegal}
-use Rattle.cuts.specs.Cluster.{Clusters, Sound}
-use Rattle.cuts.specs.Passes.{Down, Up, Counted, Run, total}
+use Rattle.cuts.specs.Cluster.{Sound}
+use Rattle.cuts.specs.Passes.{Counted, Run, total}
 use Rattle.cuts.specs.Fits.{Fits, freeAt}
 use Rattle.cuts.specs.Bounds.{allWeight, cluster-bounded}
-use Rattle.cuts.specs.OtherFree.{withFree, sound-free, counted-free}
+use Rattle.cuts.specs.OtherFree.{sound-free, counted-free}
 use Rattle.cuts.specs.BridgeFits.{sound-of-fits}
 use Rattle.cuts.specs.BridgeRun.{hopeless-none}
 use Rattle.jumpers.specs.Arrays.{clustersOf, downOf, upOf}

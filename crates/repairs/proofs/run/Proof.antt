@@ -1,17 +1,16 @@
 -- `repairs::run` meets its contract: each pass has what it requires from those before, and together they give a plan or show that there is none.
 -- Assumes nothing.
-use Prim.Native.Nat.{ℕ, _≤_, _<_, _^_}
+use Prim.Native.Nat.{ℕ, _≤_}
 use mathlib.Core.Path.{_≡_, sym, subst}
-use mathlib.Core.Bool.{Bool, true, false}
+use mathlib.Core.Bool.{Bool}
 use mathlib.Core.List.{List}
 use native.Mathlib.Omega.{arith}
-use lib.ListN.{length, getD}
+use lib.ListN.{length}
 use denote.Ref.{now}
 use Rattle.laws.specs.Sums.{no-both}
 use Rattle.net.specs.Net.{nodeCount}
 use Rattle.net.specs.Layout.{mostNodes}
 use Rattle.net.specs.Accepted.{NetRight, net-right}
-use Rattle.net.specs.Stage.{stageOf}
 use Rattle.jumpers.specs.Count.{workClusters, Ready, CountedFrom, Hopeless, rootSum}
 use Rattle.jumpers.specs.Choose.{Choosable}
 use Rattle.jumpers.specs.ScanFits.{wired-of}

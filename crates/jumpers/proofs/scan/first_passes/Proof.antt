@@ -1,14 +1,13 @@
 -- `jumpers::scan::first_passes` meets its contract: each pass has what it requires from those before, and together they fit the net. Assumes nothing.
-use Prim.Native.Nat.{ℕ, _≤_, _<_}
-use mathlib.Core.Path.{_≡_}
+use Prim.Native.Nat.{ℕ, _≤_}
 use mathlib.Core.Bool.{Bool}
 use mathlib.Core.List.{List}
 use native.Mathlib.Omega.{arith}
-use lib.ListN.{length, getD}
+use lib.ListN.{length}
 use denote.Ref.{now}
 use borrow.Author.Needs.{needs}
 use Rattle.net.specs.Net.{nodeCount, wireParent}
-use Rattle.jumpers.specs.Scan.{Wired, Inside, Falling, Scanned, made, whole}
+use Rattle.jumpers.specs.Scan.{Inside, Falling, Scanned, made, whole}
 use Rattle.jumpers.specs.ScanLaws.{made-lower, whole-lower, leads-falling}
 use Rattle.jumpers.specs.ScanEnds.{inside-of, first-none}
 use Rattle.jumpers.specs.ScanWeights.{Bytes}

@@ -1,8 +1,5 @@
 -- `jumpers::scan::gate_of` meets its contract. Assumes nothing.
-use Prim.Native.Nat.{_<_}
 use mathlib.Core.Path.{_≡_, sym, _∙_, ap}
-use mathlib.Core.Bool.{true, false}
-use native.Mathlib.Omega.{arith}
 use denote.Ref.{now}
 use borrow.Author.Needs.{needs}
 use Rattle.net.specs.Net.{nodeFlags, isGate}

@@ -1,11 +1,9 @@
 -- `jumpers::scan::highest_of` meets its contract. Assumes nothing.
-use Prim.Native.Nat.{_-_, _<_}
 use mathlib.Core.Path.{_≡_, sym, _∙_}
 use mathlib.Core.Bool.{true}
 use native.Mathlib.Omega.{arith}
 use denote.Ref.{now}
 use borrow.Author.Needs.{needs}
-use Rattle.net.specs.Net.{wireLength}
 use Rattle.points.specs.Cuttable.{Checked}
 use Rattle.jumpers.specs.Scan.{made}
 use Rattle.jumpers.specs.ScanLaws.{made-positive}

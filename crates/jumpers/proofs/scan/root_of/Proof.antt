@@ -1,13 +1,12 @@
 -- `jumpers::scan::root_of` meets its contract. Assumes nothing.
 use Prim.Native.Nat.{_<_}
 use mathlib.Core.Path.{_≡_, sym, _∙_}
-use mathlib.Core.Bool.{true, false}
+use mathlib.Core.Bool.{true}
 use native.Mathlib.Omega.{arith}
 use lib.ListN.{getD}
 use denote.Ref.{now}
 use borrow.Author.Needs.{needs}
 use borrow.Author.Tests.{lt-ltb, le-ltb}
-use Rattle.net.specs.Net.{wireParent}
 use Rattle.jumpers.specs.Scan.{made}
 use Rattle.jumpers.specs.ScanLaws.{made-positive}
 use Rattle.jumpers.proofs.scan.root_of.Statement.{statement}

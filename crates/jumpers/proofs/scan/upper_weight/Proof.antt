@@ -1,12 +1,10 @@
 -- `jumpers::scan::upper_weight` meets its contract. Assumes nothing.
-use Prim.Native.Nat.{_-_, _*_, _<_, _≤_}
-use mathlib.Core.Path.{_≡_, sym, _∙_}
+use Prim.Native.Nat.{_-_, _<_}
 use native.Mathlib.Omega.{arith}
 use lib.ListN.{getD}
 use denote.Ref.{now}
 use borrow.Author.Needs.{needs}
 use borrow.Author.Tests.{lt-ltb, le-ltb}
-use Rattle.net.specs.Net.{wireLength}
 use Rattle.jumpers.specs.ScanEnds.{checked}
 use Rattle.jumpers.specs.ScanWeights.{product-small}
 use Rattle.jumpers.proofs.scan.upper_weight.Statement.{statement}
