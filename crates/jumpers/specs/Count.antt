@@ -76,6 +76,17 @@ pub record CountedFrom
 unfoldable pub rootSum : ℕ → List ℕ → List ℕ → ℕ
 rootSum m lo fewest = sum m (λ r. χ (not (ltb 0 (getD lo r 0))) (getD fewest r 0))
 
+-- all clusters are closed and climbed, and points lie below those that hang on none
+pub record CountedAll
+    (n : ℕ) (ns ws os lo hi host fixed gates : List ℕ) (limit : ℕ) (cut anyOk : List Bool) (anyWeight : List ℕ) (hasUngated : List Bool) (near : List ℕ)
+    (points : ℕ) : Type 0 where
+  pub fewest : List ℕ
+  pub count : List ℕ
+  pub lightest : List ℕ
+  pub ungated : List ℕ
+  pub counted : CountedFrom (workClusters n ns ws os lo hi host fixed gates) limit cut fewest anyOk anyWeight count lightest hasUngated ungated near 0
+  pub points-is : points ≡ rootSum n lo fewest
+
 -- the arrays of the pass down reach to n
 pub record Reach
     (n : ℕ) (cut : List Bool) (fewest : List ℕ) (anyOk : List Bool) (anyWeight count lightest : List ℕ)

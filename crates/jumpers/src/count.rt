@@ -2,13 +2,15 @@
 use crate::climb::climb;
 use crate::close::Closing;
 use crate::close::close;
+use net::layout::MOST_NODES;
 ghost use mathlib.Core.Path.{_≡_};
 ghost use mathlib.Core.Bool.{true, false};
 ghost use Prim.Native.Nat.{ℕ, _<_, _≤_, _^_};
 ghost use lib.ListN.{length, getD, set};
+ghost use Rattle.net.specs.Layout.{mostNodes};
 ghost use Rattle.jumpers.specs.Close.{hung, HungAbove, Lengths, Room, Closes};
 ghost use Rattle.jumpers.specs.Climb.{Branch, Closable};
-ghost use Rattle.jumpers.specs.Count.{workClusters, Ready, ClimbsAt, CountedFrom, rootSum, Reach, Hopeless};
+ghost use Rattle.jumpers.specs.Count.{workClusters, Ready, ClimbsAt, CountedFrom, CountedAll, rootSum, Reach, Hopeless};
 
 // Closes cluster r and stores what was found.
 fn close_at(
@@ -117,8 +119,8 @@ pub struct Count {
     pub points: u64,
 }
 
-// The pass down over n nodes.
-pub fn count_pass(
+// The pass down over n nodes and lent arrays.
+fn count_clusters(
     nodes: &[u8],
     wires: &[u8],
     obstacles: &[u8],
@@ -195,4 +197,57 @@ pub fn count_pass(
         hopeless: false,
         points,
     }
+}
+
+// The pass down over n nodes, with the arrays that only it uses.
+pub fn count_pass(
+    nodes: &[u8],
+    wires: &[u8],
+    obstacles: &[u8],
+    lo: &[u64],
+    hi: &[u64],
+    host: &[usize],
+    fixed: &[u64],
+    gates: &[u64],
+    cut: &mut [bool],
+    any: &mut [bool],
+    anyweight: &mut [u64],
+    ungatable: &mut [bool],
+    near: &mut [u64],
+    n: usize,
+    limit: u64,
+) -> Count
+    requires { ⌜ Ready n (now nodes) (now wires) (now obstacles) (now lo) (now hi) (now host) (now fixed) (now gates) × (n ≤ mostNodes) ⌝ }
+    requires { ⌜ (n ≤ length (now cut)) × (n ≤ length (now any)) × (n ≤ length (now anyweight)) × (n ≤ length (now ungatable)) × (n ≤ length (now near)) ⌝ }
+    requires { ⌜ ((j : ℕ) → j < n → getD (now cut) j false ≡ false) ⌝ }
+    ensures { λ x. ⌜ (x .hopeless ≡ true → Hopeless n (now (fixed .entry)) (now (gates .entry)) limit) ⌝ }
+    ensures { λ x. ⌜ (x .hopeless ≡ false →
+        CountedAll n (now (nodes .entry)) (now (wires .entry)) (now (obstacles .entry)) (now (lo .entry)) (now (hi .entry)) (now (host .entry)) (now (fixed .entry)) (now (gates .entry)) limit
+        (now (cut .exit)) (now (any .exit)) (now (anyweight .exit)) (now (ungatable .exit)) (now (near .exit)) (x .points)) ⌝ }
+{
+    let mut fewest = [0u64; MOST_NODES];
+    let mut count = [0u64; MOST_NODES];
+    let mut lightest = [0u64; MOST_NODES];
+    let mut ungated = [0u64; MOST_NODES];
+    count_clusters(
+        nodes,
+        wires,
+        obstacles,
+        lo,
+        hi,
+        host,
+        fixed,
+        gates,
+        cut,
+        &mut fewest,
+        any,
+        anyweight,
+        &mut count,
+        &mut lightest,
+        ungatable,
+        &mut ungated,
+        near,
+        n,
+        limit,
+    )
 }

@@ -20,7 +20,7 @@ use Rattle.net.specs.Accepted.{NetRight, formed}
 use Rattle.points.specs.Geometry.{checked-of}
 use Rattle.pieces.specs.Legal.{Smallest, NoneLegal}
 use Rattle.cuts.specs.Cluster.{Sound}
-use Rattle.cuts.specs.Passes.{Counted, Run, total}
+use Rattle.cuts.specs.Passes.{Down, Counted, Run, total}
 use Rattle.cuts.specs.Fits.{Fits, freeAt}
 use Rattle.cuts.specs.Bounds.{allWeight, cluster-bounded}
 use Rattle.cuts.specs.OtherFree.{sound-free, counted-free}
@@ -28,7 +28,7 @@ use Rattle.cuts.specs.BridgeFits.{sound-of-fits}
 use Rattle.cuts.specs.BridgeRun.{hopeless-none}
 use Rattle.jumpers.specs.Arrays.{clustersOf, downOf, upOf}
 use Rattle.jumpers.specs.Climb.{openAt}
-use Rattle.jumpers.specs.Count.{workClusters, Ready, CountedFrom, Hopeless, rootSum}
+use Rattle.jumpers.specs.Count.{workClusters, Ready, CountedAll, Hopeless, rootSum}
 use Rattle.jumpers.specs.Choose.{Chooses, Choosable}
 use Rattle.jumpers.specs.ChooseLaws.{chosen-of}
 use Rattle.jumpers.specs.Promise.{Judged, too-short, done}
@@ -92,13 +92,16 @@ module _ (ns ws os : List ℕ) (k : ℕ) (right : NetRight ns ws os) (lo hi host
       hopeless-none (stageOf ns ws os k) (clustersOf (stageOf ns ws os k) lo hi host fixed gates) root component is-formed fits limit (h .at) (h .inside) (h .gated) (h .heavy)
 
   module _ (limit : ℕ) (light : allWeight (clustersOf (stageOf ns ws os k) lo hi host fixed gates) < 2 ^ 48) (short : (r : ℕ) → r < nodeCount ns → getD hi r 0 < 65536)
-      (cut : List Bool) (fewest : List ℕ) (any : List Bool) (anyWeight count lightest : List ℕ)
-      (ungatable : List Bool) (ungated near : List ℕ)
-      (worked : CountedFrom (workClusters (nodeCount ns) ns ws os lo hi host fixed gates) limit cut fewest any anyWeight count lightest ungatable ungated near 0) where
-    counted : Counted (clustersOf (stageOf ns ws os k) lo hi host fixed gates) limit (downOf cut fewest any anyWeight (worked .ungatedOk) (worked .ungatedWeight) count lightest ungatable ungated near) 0
+      (cut any : List Bool) (anyWeight : List ℕ) (ungatable : List Bool) (near : List ℕ) (points : ℕ)
+      (worked : CountedAll (nodeCount ns) ns ws os lo hi host fixed gates limit cut any anyWeight ungatable near points) where
+    abbrev down : Down
+    down =
+        downOf cut (worked .fewest) any anyWeight (worked .counted .ungatedOk) (worked .counted .ungatedWeight) (worked .count) (worked .lightest) ungatable (worked .ungated) near
+
+    counted : Counted (clustersOf (stageOf ns ws os k) lo hi host fixed gates) limit down 0
     unfolding workClusters clustersOf stageOf
     counted =
-        counted-free (workClusters (nodeCount ns) ns ws os lo hi host fixed gates) (λ i t. freeAt (stageOf ns ws os k) i t) same-free (worked .counted)
+        counted-free (workClusters (nodeCount ns) ns ws os lo hi host fixed gates) (λ i t. freeAt (stageOf ns ws os k) i t) same-free (worked .counted .counted)
 
     is-sound : Sound (clustersOf (stageOf ns ws os k) lo hi host fixed gates)
     is-sound = sound-of-fits (stageOf ns ws os k) (clustersOf (stageOf ns ws os k) lo hi host fixed gates) root component is-formed fits
@@ -106,7 +109,7 @@ module _ (ns ws os : List ℕ) (k : ℕ) (right : NetRight ns ws os) (lo hi host
     weight-light : (r : ℕ) → r < nodeCount ns → getD anyWeight r 0 < 2 ^ 48
     unfolding clustersOf stageOf downOf
     weight-light r p =
-        let b = cluster-bounded (clustersOf (stageOf ns ws os k) lo hi host fixed gates) limit (downOf cut fewest any anyWeight (worked .ungatedOk) (worked .ungatedWeight) count lightest ungatable ungated near) is-sound 0 counted r (omega arith) p in
+        let b = cluster-bounded (clustersOf (stageOf ns ws os k) lo hi host fixed gates) limit down is-sound 0 counted r (omega arith) p in
         omega (arith, light, b)
 
     -- what the pass up requires
@@ -123,22 +126,22 @@ module _ (ns ws os : List ℕ) (k : ℕ) (right : NetRight ns ws os) (lo hi host
 
     -- both passes: the list of the chosen points is that of a smallest legal set, and has as many entries as were counted
     module _ (mode high : List Bool) (chose : (r : ℕ) → r < nodeCount ns → Chooses ws lo hi host cut any anyWeight ungatable near limit mode high r) where
-      run : Run (clustersOf (stageOf ns ws os k) lo hi host fixed gates) limit (downOf cut fewest any anyWeight (worked .ungatedOk) (worked .ungatedWeight) count lightest ungatable ungated near) (upOf mode high)
+      run : Run (clustersOf (stageOf ns ws os k) lo hi host fixed gates) limit down (upOf mode high)
       unfolding clustersOf stageOf
       run =
           record {
             counted = counted;
             chosen = λ r p.
-                chosen-of ws lo hi host cut any anyWeight ungatable near limit (stageOf ns ws os k) fixed gates fewest (worked .ungatedOk) (worked .ungatedWeight) count lightest ungated mode high r refl (chose r p);
+                chosen-of ws lo hi host cut any anyWeight ungatable near limit (stageOf ns ws os k) fixed gates (worked .fewest) (worked .counted .ungatedOk) (worked .counted .ungatedWeight) (worked .count) (worked .lightest) (worked .ungated) mode high r refl (chose r p);
           }
 
-      pub planned : (points : ℕ) → points ≡ rootSum (nodeCount ns) lo fewest → Planned (stageOf ns ws os k) limit hi near high points
+      pub planned : Planned (stageOf ns ws os k) limit hi near high points
       unfolding clustersOf stageOf downOf total rootSum
-      planned points e =
+      planned =
           record {
-            smallest = smallest-list (stageOf ns ws os k) root component limit lo hi host fixed gates cut fewest any anyWeight (worked .ungatedOk) (worked .ungatedWeight) count lightest ungatable ungated near mode high is-formed fits run short;
-            listing = listable (stageOf ns ws os k) root component limit lo hi host fixed gates cut fewest any anyWeight (worked .ungatedOk) (worked .ungatedWeight) count lightest ungatable ungated near mode high is-formed fits run short;
-            points-is = e ∙ sym (count-is-total (stageOf ns ws os k) root component limit lo hi host fixed gates cut fewest any anyWeight (worked .ungatedOk) (worked .ungatedWeight) count lightest ungatable ungated near mode high is-formed fits run short);
+            smallest = smallest-list (stageOf ns ws os k) root component limit lo hi host fixed gates cut (worked .fewest) any anyWeight (worked .counted .ungatedOk) (worked .counted .ungatedWeight) (worked .count) (worked .lightest) ungatable (worked .ungated) near mode high is-formed fits run short;
+            listing = listable (stageOf ns ws os k) root component limit lo hi host fixed gates cut (worked .fewest) any anyWeight (worked .counted .ungatedOk) (worked .counted .ungatedWeight) (worked .count) (worked .lightest) ungatable (worked .ungated) near mode high is-formed fits run short;
+            points-is = worked .points-is ∙ sym (count-is-total (stageOf ns ws os k) root component limit lo hi host fixed gates cut (worked .fewest) any anyWeight (worked .counted .ungatedOk) (worked .counted .ungatedWeight) (worked .count) (worked .lightest) ungatable (worked .ungated) near mode high is-formed fits run short);
           }
 
 -- an array of false is false everywhere

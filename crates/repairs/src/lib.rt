@@ -32,18 +32,14 @@ fn run(
     fixed: &mut [u64],
     gates: &mut [u64],
     cut: &mut [bool],
-    fewest: &mut [u64],
     any: &mut [bool],
     anyweight: &mut [u64],
-    count: &mut [u64],
-    lightest: &mut [u64],
     ungatable: &mut [bool],
-    ungated: &mut [u64],
     near: &mut [u64],
     high: &mut [bool],
 ) -> Count
     requires { ⌜ netRefusal (now nodes) (now wires) (now obstacles) ≡ none ⌝ }
-    requires { ⌜ (mostNodes ≤ length (now lo)) × (mostNodes ≤ length (now hi)) × (mostNodes ≤ length (now host)) × (mostNodes ≤ length (now fixed)) × (mostNodes ≤ length (now gates)) × (mostNodes ≤ length (now cut)) × (mostNodes ≤ length (now fewest)) × (mostNodes ≤ length (now any)) × (mostNodes ≤ length (now anyweight)) × (mostNodes ≤ length (now count)) × (mostNodes ≤ length (now lightest)) × (mostNodes ≤ length (now ungatable)) × (mostNodes ≤ length (now ungated)) × (mostNodes ≤ length (now near)) × (mostNodes ≤ length (now high)) ⌝ }
+    requires { ⌜ (mostNodes ≤ length (now lo)) × (mostNodes ≤ length (now hi)) × (mostNodes ≤ length (now host)) × (mostNodes ≤ length (now fixed)) × (mostNodes ≤ length (now gates)) × (mostNodes ≤ length (now cut)) × (mostNodes ≤ length (now any)) × (mostNodes ≤ length (now anyweight)) × (mostNodes ≤ length (now ungatable)) × (mostNodes ≤ length (now near)) × (mostNodes ≤ length (now high)) ⌝ }
     requires { ⌜ ((j : ℕ) → getD (now cut) j false ≡ false) ⌝ }
     ensures { λ x. ⌜ Plans (now (nodes .entry)) (now (wires .entry)) (now (obstacles .entry)) stage limit (now (hi .exit)) (now (near .exit)) (now (high .exit)) (x .hopeless) (x .points) ⌝ }
 {
@@ -59,13 +55,9 @@ fn run(
         fixed,
         gates,
         cut,
-        fewest,
         any,
         anyweight,
-        count,
-        lightest,
         ungatable,
-        ungated,
         near,
         n,
         limit,
@@ -110,13 +102,9 @@ fn plan(
     let mut fixed = [0u64; MOST_NODES];
     let mut gates = [0u64; MOST_NODES];
     let mut cut = [false; MOST_NODES];
-    let mut fewest = [0u64; MOST_NODES];
     let mut any = [false; MOST_NODES];
     let mut anyweight = [0u64; MOST_NODES];
-    let mut count = [0u64; MOST_NODES];
-    let mut lightest = [0u64; MOST_NODES];
     let mut ungatable = [false; MOST_NODES];
-    let mut ungated = [0u64; MOST_NODES];
     run(
         nodes,
         wires,
@@ -129,13 +117,9 @@ fn plan(
         &mut fixed,
         &mut gates,
         &mut cut,
-        &mut fewest,
         &mut any,
         &mut anyweight,
-        &mut count,
-        &mut lightest,
         &mut ungatable,
-        &mut ungated,
         near,
         high,
     )

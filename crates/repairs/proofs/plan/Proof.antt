@@ -29,34 +29,22 @@ slice-aggregate-run-7 c = search needs
 slice-aggregate-run-8 : tie.Need-slice-aggregate-run-8
 slice-aggregate-run-8 c = search needs
 
-slice-aggregate-run-9 : tie.Need-slice-aggregate-run-9
-slice-aggregate-run-9 c = search needs
-
-slice-aggregate-run-10 : tie.Need-slice-aggregate-run-10
-slice-aggregate-run-10 c = search needs
-
-slice-aggregate-run-11 : tie.Need-slice-aggregate-run-11
-slice-aggregate-run-11 c = search needs
-
-slice-aggregate-run-12 : tie.Need-slice-aggregate-run-12
-slice-aggregate-run-12 c = search needs
-
 run-requires : tie.Need-run-requires
 run-requires c κs =
-    let s : tie.Start = c .before .before .before .before .before .before .before .before .before .before .before .before .before .before .before .before .before .before .before .before .before in
-    (s .pre .0, ((search needs, s .pre .1 .0, search needs, search needs, search needs, search needs, search needs, search needs, search needs, search needs, search needs, search needs, search needs, s .pre .1 .1, s .pre .1 .2), λ j. all-false 256 j))
+    let s : tie.Start = c .before .before .before .before .before .before .before .before .before .before .before .before .before .before .before .before .before in
+    (s .pre .0, ((search needs, s .pre .1 .0, search needs, search needs, search needs, search needs, search needs, search needs, search needs, s .pre .1 .1, s .pre .1 .2), λ j. all-false 256 j))
 
 same-length : tie.Need-same-length
-same-length c = let d : tie.After-run = c .before .before .before .before .before .before .before .before .before .before .before .before .before .before .before .before .before .before in d .run .kept .1 .1 .1 .1 .1 .1 .0
+same-length c = let d : tie.After-run = c .before .before .before .before .before .before .before .before .before .before .before .before .before .before in d .run .kept .1 .1 .1 .1 .1 .1 .0
 
 same-length-2 : tie.Need-same-length-2
-same-length-2 c = let d : tie.After-run = c .before .before .before .before .before .before .before .before .before .before .before .before .before .before .before .before .before .before in d .run .kept .1 .1 .1 .1 .1 .1 .1 .1 .1 .1 .1 .1 .1 .1 .1 .1 .1 .1 .0
+same-length-2 c = let d : tie.After-run = c .before .before .before .before .before .before .before .before .before .before .before .before .before .before in d .run .kept .1 .1 .1 .1 .1 .1 .1 .1 .1 .1 .1 .1 .1 .1 .0
 
 same-length-3 : tie.Need-same-length-3
-same-length-3 c = let d : tie.After-run = c .before .before .before .before .before .before .before .before .before .before .before .before .before .before .before .before .before .before in d .run .kept .1 .1 .1 .1 .1 .1 .1 .1 .1 .1 .1 .1 .1 .1 .1 .1 .1 .1 .1 .0
+same-length-3 c = let d : tie.After-run = c .before .before .before .before .before .before .before .before .before .before .before .before .before .before in d .run .kept .1 .1 .1 .1 .1 .1 .1 .1 .1 .1 .1 .1 .1 .1 .1 .0
 
 returns : tie.Need-returns
-returns c = let d : tie.After-run = c .before .before .before .before .before .before .before .before .before .before .before .before .before .before .before .before .before .before in d .run .ensures
+returns c = let d : tie.After-run = c .before .before .before .before .before .before .before .before .before .before .before .before .before .before in d .run .ensures
 
 pub plan-spec : {M : Type 1} → statement M
 plan-spec =
@@ -70,10 +58,6 @@ plan-spec =
     slice-aggregate-run-6
     slice-aggregate-run-7
     slice-aggregate-run-8
-    slice-aggregate-run-9
-    slice-aggregate-run-10
-    slice-aggregate-run-11
-    slice-aggregate-run-12
     run-requires
     same-length
     same-length-2

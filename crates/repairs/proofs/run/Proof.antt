@@ -11,7 +11,7 @@ use Rattle.laws.specs.Sums.{no-both}
 use Rattle.net.specs.Net.{nodeCount}
 use Rattle.net.specs.Layout.{mostNodes}
 use Rattle.net.specs.Accepted.{NetRight, net-right}
-use Rattle.jumpers.specs.Count.{workClusters, Ready, CountedFrom, Hopeless, rootSum}
+use Rattle.jumpers.specs.Count.{Ready, CountedAll, Hopeless}
 use Rattle.jumpers.specs.Choose.{Choosable}
 use Rattle.jumpers.specs.ScanFits.{wired-of}
 use Rattle.repairs.specs.RepairLaws.{ready-of, none-of, choosable-of, planned}
@@ -20,16 +20,16 @@ use Rattle.repairs.proofs.run.Tie as tie
 
 -- ---- the places after each pass
 abbrev start : tie.After-scan → tie.Start
-start c = c .before .before .before .before .before .before .before .before .before .before .before .before .before .before .before .before .before .before .before .before .before .before .before .before .before
+start c = c .before .before .before .before .before .before .before .before .before .before .before .before .before .before .before .before .before .before .before .before .before
 
 abbrev numbered : tie.After-scan → tie.After-node-count
 numbered c = c .before .before .before .before .before .before
 
 abbrev scanned : tie.After-count-pass → tie.After-scan
-scanned c = c .before .before .before .before .before .before .before .before .before .before .before .before .before .before .before .before .before .before .before .before .before .before .before .before .before
+scanned c = c .before .before .before .before .before .before .before .before .before .before .before .before .before .before .before .before .before .before .before .before .before
 
 abbrev counted : tie.Else1 → tie.After-count-pass
-counted c = c .before .before .before .before .before .before .before .before .before .before .before .before .before .before .before .before .before .before .before
+counted c = c .before .before .before .before .before .before .before .before .before .before .before
 
 abbrev chose : tie.After-choose → tie.Else1
 chose c = c .before .before .before .before .before .before .before .before .before .before
@@ -53,29 +53,17 @@ Gates c = c .scan .last .1 .1 .1 .1 .1 .1 .1 .1 .0
 abbrev Cut : tie.After-count-pass → List Bool
 Cut c = c .count-pass .last .1 .1 .1 .1 .1 .1 .1 .1 .0
 
-abbrev Fewest : tie.After-count-pass → List ℕ
-Fewest c = c .count-pass .last .1 .1 .1 .1 .1 .1 .1 .1 .1 .0
-
 abbrev Any : tie.After-count-pass → List Bool
-Any c = c .count-pass .last .1 .1 .1 .1 .1 .1 .1 .1 .1 .1 .0
+Any c = c .count-pass .last .1 .1 .1 .1 .1 .1 .1 .1 .1 .0
 
 abbrev Anyweight : tie.After-count-pass → List ℕ
-Anyweight c = c .count-pass .last .1 .1 .1 .1 .1 .1 .1 .1 .1 .1 .1 .0
-
-abbrev Count : tie.After-count-pass → List ℕ
-Count c = c .count-pass .last .1 .1 .1 .1 .1 .1 .1 .1 .1 .1 .1 .1 .0
-
-abbrev Lightest : tie.After-count-pass → List ℕ
-Lightest c = c .count-pass .last .1 .1 .1 .1 .1 .1 .1 .1 .1 .1 .1 .1 .1 .0
+Anyweight c = c .count-pass .last .1 .1 .1 .1 .1 .1 .1 .1 .1 .1 .0
 
 abbrev Ungatable : tie.After-count-pass → List Bool
-Ungatable c = c .count-pass .last .1 .1 .1 .1 .1 .1 .1 .1 .1 .1 .1 .1 .1 .1 .0
-
-abbrev Ungated : tie.After-count-pass → List ℕ
-Ungated c = c .count-pass .last .1 .1 .1 .1 .1 .1 .1 .1 .1 .1 .1 .1 .1 .1 .1 .0
+Ungatable c = c .count-pass .last .1 .1 .1 .1 .1 .1 .1 .1 .1 .1 .1 .0
 
 abbrev Near : tie.After-count-pass → List ℕ
-Near c = c .count-pass .last .1 .1 .1 .1 .1 .1 .1 .1 .1 .1 .1 .1 .1 .1 .1 .1 .0
+Near c = c .count-pass .last .1 .1 .1 .1 .1 .1 .1 .1 .1 .1 .1 .1 .0
 
 -- ---- what holds of them
 right : (s : tie.Start) → NetRight (now (s .args .nodes)) (now (s .args .wires)) (now (s .args .obstacles))
@@ -107,84 +95,75 @@ cut-long : (c : tie.After-count-pass) → nodeCount (now (start (scanned c) .arg
 cut-long c = omega (arith, c .count-pass .kept .1 .1 .1 .1 .1 .1 .1 .1 .0, few (start (scanned c)), start (scanned c) .pre .1 .0 .5)
 
 any-long : (c : tie.After-count-pass) → nodeCount (now (start (scanned c) .args .nodes)) ≤ length (Any c)
-any-long c = omega (arith, c .count-pass .kept .1 .1 .1 .1 .1 .1 .1 .1 .1 .1 .0, few (start (scanned c)), start (scanned c) .pre .1 .0 .7)
+any-long c = omega (arith, c .count-pass .kept .1 .1 .1 .1 .1 .1 .1 .1 .1 .0, few (start (scanned c)), start (scanned c) .pre .1 .0 .6)
 
 anyweight-long : (c : tie.After-count-pass) → nodeCount (now (start (scanned c) .args .nodes)) ≤ length (Anyweight c)
-anyweight-long c = omega (arith, c .count-pass .kept .1 .1 .1 .1 .1 .1 .1 .1 .1 .1 .1 .0, few (start (scanned c)), start (scanned c) .pre .1 .0 .8)
+anyweight-long c = omega (arith, c .count-pass .kept .1 .1 .1 .1 .1 .1 .1 .1 .1 .1 .0, few (start (scanned c)), start (scanned c) .pre .1 .0 .7)
 
 ungatable-long : (c : tie.After-count-pass) → nodeCount (now (start (scanned c) .args .nodes)) ≤ length (Ungatable c)
-ungatable-long c = omega (arith, c .count-pass .kept .1 .1 .1 .1 .1 .1 .1 .1 .1 .1 .1 .1 .1 .1 .0, few (start (scanned c)), start (scanned c) .pre .1 .0 .11)
+ungatable-long c = omega (arith, c .count-pass .kept .1 .1 .1 .1 .1 .1 .1 .1 .1 .1 .1 .0, few (start (scanned c)), start (scanned c) .pre .1 .0 .8)
 
 near-long : (c : tie.After-count-pass) → nodeCount (now (start (scanned c) .args .nodes)) ≤ length (Near c)
-near-long c = omega (arith, c .count-pass .kept .1 .1 .1 .1 .1 .1 .1 .1 .1 .1 .1 .1 .1 .1 .1 .1 .0, few (start (scanned c)), start (scanned c) .pre .1 .0 .13)
+near-long c = omega (arith, c .count-pass .kept .1 .1 .1 .1 .1 .1 .1 .1 .1 .1 .1 .1 .0, few (start (scanned c)), start (scanned c) .pre .1 .0 .9)
 
 node-count-requires : tie.Need-node-count-requires
 node-count-requires c κs = tt
 
 scan-requires : tie.Need-scan-requires
 scan-requires c κs =
-    let s : tie.Start = c .before .before .before .before .before .before .before .before .before .before .before .before .before .before .before .before .before .before .before .before .before .before .before .before in
+    let s : tie.Start = c .before .before .before .before .before .before .before .before .before .before .before .before .before .before .before .before .before .before .before .before in
     ((wired-of (right s), few s), (omega (arith, few s, s .pre .1 .0 .0), omega (arith, few s, s .pre .1 .0 .1), omega (arith, few s, s .pre .1 .0 .2), omega (arith, few s, s .pre .1 .0 .3), omega (arith, few s, s .pre .1 .0 .4)))
 
 count-pass-requires : tie.Need-count-pass-requires
 count-pass-requires c κs =
-    let t : tie.After-scan = c .before .before .before .before .before .before .before .before .before .before .before .before .before .before .before .before .before .before .before .before .before .before .before .before in
+    let t : tie.After-scan = c .before .before .before .before .before .before .before .before .before .before .before .before .before .before .before .before .before .before .before .before in
     let s = start t in
     let a = s .args in (
-      subst (λ (m : ℕ). Ready m (now (a .nodes)) (now (a .wires)) (now (a .obstacles)) (Lo t) (Hi t) (Host t) (Fixed t) (Gates t)) (sym (nodes-are t))
-          (ready-of (now (a .nodes)) (now (a .wires)) (now (a .obstacles)) (a .stage) (right s) (Lo t) (Hi t) (Host t) (Fixed t) (Gates t) (t .scan .ensures .0 .0) (t .scan .ensures .0 .1)
-          (t .scan .ensures .0 .2) (t .scan .ensures .1 .0) (lo-long t) (hi-long t) (host-long t) (fixed-long t) (gates-long t)),
       (
-        record { cuts = omega (arith, nodes-are t, few s, s .pre .1 .0 .5); fewests = omega (arith, nodes-are t, few s, s .pre .1 .0 .6); anys = omega (arith, nodes-are t, few s, s .pre .1 .0 .7); any-weights = omega (arith, nodes-are t, few s, s .pre .1 .0 .8); counts = omega (arith, nodes-are t, few s, s .pre .1 .0 .9); lights = omega (arith, nodes-are t, few s, s .pre .1 .0 .10); flags = omega (arith, nodes-are t, few s, s .pre .1 .0 .11); ungateds = omega (arith, nodes-are t, few s, s .pre .1 .0 .12); nears = omega (arith, nodes-are t, few s, s .pre .1 .0 .13) },
+        subst (λ (m : ℕ). Ready m (now (a .nodes)) (now (a .wires)) (now (a .obstacles)) (Lo t) (Hi t) (Host t) (Fixed t) (Gates t)) (sym (nodes-are t))
+            (ready-of (now (a .nodes)) (now (a .wires)) (now (a .obstacles)) (a .stage) (right s) (Lo t) (Hi t) (Host t) (Fixed t) (Gates t) (t .scan .ensures .0 .0) (t .scan .ensures .0 .1)
+            (t .scan .ensures .0 .2) (t .scan .ensures .1 .0) (lo-long t) (hi-long t) (host-long t) (fixed-long t) (gates-long t)),
+        omega (arith, nodes-are t, few s),
+      ),
+      (
+        (omega (arith, nodes-are t, few s, s .pre .1 .0 .5), omega (arith, nodes-are t, few s, s .pre .1 .0 .6), omega (arith, nodes-are t, few s, s .pre .1 .0 .7), omega (arith, nodes-are t, few s, s .pre .1 .0 .8), omega (arith, nodes-are t, few s, s .pre .1 .0 .9)),
         λ j p. s .pre .1 .1 j,
       ),
     )
 
 same-length : tie.Need-same-length
-same-length c = let t : tie.After-count-pass = c .before .before .before .before .before .before .before .before .before .before .before .before .before .before .before .before .before .before .before in scanned t .scan .kept .1 .1 .1 .1 .0
+same-length c = let t : tie.After-count-pass = c .before .before .before .before .before .before .before .before .before .before .before in scanned t .scan .kept .1 .1 .1 .1 .0
 
 same-length-2 : tie.Need-same-length-2
-same-length-2 c = let t : tie.After-count-pass = c .before .before .before .before .before .before .before .before .before .before .before .before .before .before .before .before .before .before .before in scanned t .scan .kept .1 .1 .1 .1 .1 .0
+same-length-2 c = let t : tie.After-count-pass = c .before .before .before .before .before .before .before .before .before .before .before in scanned t .scan .kept .1 .1 .1 .1 .1 .0
 
 same-length-3 : tie.Need-same-length-3
-same-length-3 c = let t : tie.After-count-pass = c .before .before .before .before .before .before .before .before .before .before .before .before .before .before .before .before .before .before .before in scanned t .scan .kept .1 .1 .1 .1 .1 .1 .0
+same-length-3 c = let t : tie.After-count-pass = c .before .before .before .before .before .before .before .before .before .before .before in scanned t .scan .kept .1 .1 .1 .1 .1 .1 .0
 
 same-length-4 : tie.Need-same-length-4
-same-length-4 c = let t : tie.After-count-pass = c .before .before .before .before .before .before .before .before .before .before .before .before .before .before .before .before .before .before .before in scanned t .scan .kept .1 .1 .1 .1 .1 .1 .1 .0
+same-length-4 c = let t : tie.After-count-pass = c .before .before .before .before .before .before .before .before .before .before .before in scanned t .scan .kept .1 .1 .1 .1 .1 .1 .1 .0
 
 same-length-5 : tie.Need-same-length-5
-same-length-5 c = let t : tie.After-count-pass = c .before .before .before .before .before .before .before .before .before .before .before .before .before .before .before .before .before .before .before in scanned t .scan .kept .1 .1 .1 .1 .1 .1 .1 .1 .0
+same-length-5 c = let t : tie.After-count-pass = c .before .before .before .before .before .before .before .before .before .before .before in scanned t .scan .kept .1 .1 .1 .1 .1 .1 .1 .1 .0
 
 same-length-6 : tie.Need-same-length-6
-same-length-6 c = let t : tie.After-count-pass = c .before .before .before .before .before .before .before .before .before .before .before .before .before .before .before .before .before .before .before in t .count-pass .kept .1 .1 .1 .1 .1 .1 .1 .1 .0
+same-length-6 c = let t : tie.After-count-pass = c .before .before .before .before .before .before .before .before .before .before .before in t .count-pass .kept .1 .1 .1 .1 .1 .1 .1 .1 .0
 
 same-length-7 : tie.Need-same-length-7
-same-length-7 c = let t : tie.After-count-pass = c .before .before .before .before .before .before .before .before .before .before .before .before .before .before .before .before .before .before .before in t .count-pass .kept .1 .1 .1 .1 .1 .1 .1 .1 .1 .0
+same-length-7 c = let t : tie.After-count-pass = c .before .before .before .before .before .before .before .before .before .before .before in t .count-pass .kept .1 .1 .1 .1 .1 .1 .1 .1 .1 .0
 
 same-length-8 : tie.Need-same-length-8
-same-length-8 c = let t : tie.After-count-pass = c .before .before .before .before .before .before .before .before .before .before .before .before .before .before .before .before .before .before .before in t .count-pass .kept .1 .1 .1 .1 .1 .1 .1 .1 .1 .1 .0
+same-length-8 c = let t : tie.After-count-pass = c .before .before .before .before .before .before .before .before .before .before .before in t .count-pass .kept .1 .1 .1 .1 .1 .1 .1 .1 .1 .1 .0
 
 same-length-9 : tie.Need-same-length-9
-same-length-9 c = let t : tie.After-count-pass = c .before .before .before .before .before .before .before .before .before .before .before .before .before .before .before .before .before .before .before in t .count-pass .kept .1 .1 .1 .1 .1 .1 .1 .1 .1 .1 .1 .0
+same-length-9 c = let t : tie.After-count-pass = c .before .before .before .before .before .before .before .before .before .before .before in t .count-pass .kept .1 .1 .1 .1 .1 .1 .1 .1 .1 .1 .1 .0
 
 same-length-10 : tie.Need-same-length-10
-same-length-10 c = let t : tie.After-count-pass = c .before .before .before .before .before .before .before .before .before .before .before .before .before .before .before .before .before .before .before in t .count-pass .kept .1 .1 .1 .1 .1 .1 .1 .1 .1 .1 .1 .1 .0
-
-same-length-11 : tie.Need-same-length-11
-same-length-11 c = let t : tie.After-count-pass = c .before .before .before .before .before .before .before .before .before .before .before .before .before .before .before .before .before .before .before in t .count-pass .kept .1 .1 .1 .1 .1 .1 .1 .1 .1 .1 .1 .1 .1 .0
-
-same-length-12 : tie.Need-same-length-12
-same-length-12 c = let t : tie.After-count-pass = c .before .before .before .before .before .before .before .before .before .before .before .before .before .before .before .before .before .before .before in t .count-pass .kept .1 .1 .1 .1 .1 .1 .1 .1 .1 .1 .1 .1 .1 .1 .0
-
-same-length-13 : tie.Need-same-length-13
-same-length-13 c = let t : tie.After-count-pass = c .before .before .before .before .before .before .before .before .before .before .before .before .before .before .before .before .before .before .before in t .count-pass .kept .1 .1 .1 .1 .1 .1 .1 .1 .1 .1 .1 .1 .1 .1 .1 .0
-
-same-length-14 : tie.Need-same-length-14
-same-length-14 c = let t : tie.After-count-pass = c .before .before .before .before .before .before .before .before .before .before .before .before .before .before .before .before .before .before .before in t .count-pass .kept .1 .1 .1 .1 .1 .1 .1 .1 .1 .1 .1 .1 .1 .1 .1 .1 .0
+same-length-10 c = let t : tie.After-count-pass = c .before .before .before .before .before .before .before .before .before .before .before in t .count-pass .kept .1 .1 .1 .1 .1 .1 .1 .1 .1 .1 .1 .1 .0
 
 returns : tie.Need-returns
 returns c =
-    let d : tie.After-count-pass = c .before .before .before .before .before .before .before .before .before .before .before .before .before .before .before .before .before .before .before in
+    let d : tie.After-count-pass = c .before .before .before .before .before .before .before .before .before .before .before in
     let t = scanned d in
     let s = start t in
     let a = s .args in
@@ -197,20 +176,19 @@ returns c =
 
 -- the pass down at the clusters of the work arrays
 worked : (e : tie.Else1) →
-    CountedFrom (workClusters (nodeCount (now (start (scanned (counted e)) .args .nodes))) (now (start (scanned (counted e)) .args .nodes)) (now (start (scanned (counted e)) .args .wires)) (now (start (scanned (counted e)) .args .obstacles)) (Lo (scanned (counted e))) (Hi (scanned (counted e))) (Host (scanned (counted e))) (Fixed (scanned (counted e))) (Gates (scanned (counted e))))
+    CountedAll (nodeCount (now (start (scanned (counted e)) .args .nodes))) (now (start (scanned (counted e)) .args .nodes)) (now (start (scanned (counted e)) .args .wires)) (now (start (scanned (counted e)) .args .obstacles)) (Lo (scanned (counted e))) (Hi (scanned (counted e))) (Host (scanned (counted e))) (Fixed (scanned (counted e))) (Gates (scanned (counted e)))
     (start (scanned (counted e)) .args .limit)
-    (Cut (counted e)) (Fewest (counted e)) (Any (counted e)) (Anyweight (counted e)) (Count (counted e)) (Lightest (counted e)) (Ungatable (counted e)) (Ungated (counted e)) (Near (counted e))
-    0
+    (Cut (counted e)) (Any (counted e)) (Anyweight (counted e)) (Ungatable (counted e)) (Near (counted e)) (counted e .count-pass .result .points)
 worked e =
     let d = counted e in
     let t = scanned d in
     let a = start t .args in
     subst
     (λ (m : ℕ).
-    CountedFrom (workClusters m (now (a .nodes)) (now (a .wires)) (now (a .obstacles)) (Lo t) (Hi t) (Host t) (Fixed t) (Gates t)) (a .limit)
-    (Cut d) (Fewest d) (Any d) (Anyweight d) (Count d) (Lightest d) (Ungatable d) (Ungated d) (Near d) 0)
+    CountedAll m (now (a .nodes)) (now (a .wires)) (now (a .obstacles)) (Lo t) (Hi t) (Host t) (Fixed t) (Gates t) (a .limit)
+    (Cut d) (Any d) (Anyweight d) (Ungatable d) (Near d) (d .count-pass .result .points))
     (nodes-are t)
-    (d .count-pass .ensures .1 .0 (e .if1 .left))
+    (d .count-pass .ensures .1 (e .if1 .left))
 
 choose-requires : tie.Need-choose-requires
 choose-requires c κs =
@@ -219,60 +197,48 @@ choose-requires c κs =
     let t = scanned d in
     let s = start t in
     let a = s .args in (
-      (omega (arith, nodes-are t, lo-long t), omega (arith, nodes-are t, hi-long t), omega (arith, nodes-are t, host-long t), omega (arith, nodes-are t, cut-long d), omega (arith, nodes-are t, any-long d), omega (arith, nodes-are t, anyweight-long d), omega (arith, nodes-are t, ungatable-long d), omega (arith, nodes-are t, near-long d), omega (arith, nodes-are t, few s, s .pre .1 .0 .14)),
+      (omega (arith, nodes-are t, lo-long t), omega (arith, nodes-are t, hi-long t), omega (arith, nodes-are t, host-long t), omega (arith, nodes-are t, cut-long d), omega (arith, nodes-are t, any-long d), omega (arith, nodes-are t, anyweight-long d), omega (arith, nodes-are t, ungatable-long d), omega (arith, nodes-are t, near-long d), omega (arith, nodes-are t, few s, s .pre .1 .0 .10)),
       (
         subst (λ (m : ℕ). Choosable m (now (a .wires)) (Lo t) (Hi t) (Host t) (Anyweight d)) (sym (nodes-are t))
             (choosable-of (now (a .nodes)) (now (a .wires)) (now (a .obstacles)) (a .stage) (right s) (Lo t) (Hi t) (Host t) (Fixed t) (Gates t) (t .scan .ensures .0 .0) (t .scan .ensures .0 .1)
             (t .scan .ensures .0 .2) (a .limit) (t .scan .ensures .1 .0) (t .scan .ensures .1 .1)
-            (Cut d) (Fewest d) (Any d) (Anyweight d) (Count d) (Lightest d) (Ungatable d) (Ungated d) (Near d) (worked e)),
+            (Cut d) (Any d) (Anyweight d) (Ungatable d) (Near d) (d .count-pass .result .points) (worked e)),
         omega (arith, nodes-are t, few s),
       ),
     )
 
+same-length-11 : tie.Need-same-length-11
+same-length-11 c = let t : tie.After-choose = c .before .before in scanned (counted (chose t)) .scan .kept .1 .1 .1 .1 .0
+
+same-length-12 : tie.Need-same-length-12
+same-length-12 c = let t : tie.After-choose = c .before .before in scanned (counted (chose t)) .scan .kept .1 .1 .1 .1 .1 .0
+
+same-length-13 : tie.Need-same-length-13
+same-length-13 c = let t : tie.After-choose = c .before .before in scanned (counted (chose t)) .scan .kept .1 .1 .1 .1 .1 .1 .0
+
+same-length-14 : tie.Need-same-length-14
+same-length-14 c = let t : tie.After-choose = c .before .before in scanned (counted (chose t)) .scan .kept .1 .1 .1 .1 .1 .1 .1 .0
+
 same-length-15 : tie.Need-same-length-15
-same-length-15 c = let t : tie.After-choose = c .before .before in scanned (counted (chose t)) .scan .kept .1 .1 .1 .1 .0
+same-length-15 c = let t : tie.After-choose = c .before .before in scanned (counted (chose t)) .scan .kept .1 .1 .1 .1 .1 .1 .1 .1 .0
 
 same-length-16 : tie.Need-same-length-16
-same-length-16 c = let t : tie.After-choose = c .before .before in scanned (counted (chose t)) .scan .kept .1 .1 .1 .1 .1 .0
+same-length-16 c = let t : tie.After-choose = c .before .before in counted (chose t) .count-pass .kept .1 .1 .1 .1 .1 .1 .1 .1 .0
 
 same-length-17 : tie.Need-same-length-17
-same-length-17 c = let t : tie.After-choose = c .before .before in scanned (counted (chose t)) .scan .kept .1 .1 .1 .1 .1 .1 .0
+same-length-17 c = let t : tie.After-choose = c .before .before in counted (chose t) .count-pass .kept .1 .1 .1 .1 .1 .1 .1 .1 .1 .0
 
 same-length-18 : tie.Need-same-length-18
-same-length-18 c = let t : tie.After-choose = c .before .before in scanned (counted (chose t)) .scan .kept .1 .1 .1 .1 .1 .1 .1 .0
+same-length-18 c = let t : tie.After-choose = c .before .before in counted (chose t) .count-pass .kept .1 .1 .1 .1 .1 .1 .1 .1 .1 .1 .0
 
 same-length-19 : tie.Need-same-length-19
-same-length-19 c = let t : tie.After-choose = c .before .before in scanned (counted (chose t)) .scan .kept .1 .1 .1 .1 .1 .1 .1 .1 .0
+same-length-19 c = let t : tie.After-choose = c .before .before in counted (chose t) .count-pass .kept .1 .1 .1 .1 .1 .1 .1 .1 .1 .1 .1 .0
 
 same-length-20 : tie.Need-same-length-20
-same-length-20 c = let t : tie.After-choose = c .before .before in counted (chose t) .count-pass .kept .1 .1 .1 .1 .1 .1 .1 .1 .0
+same-length-20 c = let t : tie.After-choose = c .before .before in counted (chose t) .count-pass .kept .1 .1 .1 .1 .1 .1 .1 .1 .1 .1 .1 .1 .0
 
 same-length-21 : tie.Need-same-length-21
-same-length-21 c = let t : tie.After-choose = c .before .before in counted (chose t) .count-pass .kept .1 .1 .1 .1 .1 .1 .1 .1 .1 .0
-
-same-length-22 : tie.Need-same-length-22
-same-length-22 c = let t : tie.After-choose = c .before .before in counted (chose t) .count-pass .kept .1 .1 .1 .1 .1 .1 .1 .1 .1 .1 .0
-
-same-length-23 : tie.Need-same-length-23
-same-length-23 c = let t : tie.After-choose = c .before .before in counted (chose t) .count-pass .kept .1 .1 .1 .1 .1 .1 .1 .1 .1 .1 .1 .0
-
-same-length-24 : tie.Need-same-length-24
-same-length-24 c = let t : tie.After-choose = c .before .before in counted (chose t) .count-pass .kept .1 .1 .1 .1 .1 .1 .1 .1 .1 .1 .1 .1 .0
-
-same-length-25 : tie.Need-same-length-25
-same-length-25 c = let t : tie.After-choose = c .before .before in counted (chose t) .count-pass .kept .1 .1 .1 .1 .1 .1 .1 .1 .1 .1 .1 .1 .1 .0
-
-same-length-26 : tie.Need-same-length-26
-same-length-26 c = let t : tie.After-choose = c .before .before in counted (chose t) .count-pass .kept .1 .1 .1 .1 .1 .1 .1 .1 .1 .1 .1 .1 .1 .1 .0
-
-same-length-27 : tie.Need-same-length-27
-same-length-27 c = let t : tie.After-choose = c .before .before in counted (chose t) .count-pass .kept .1 .1 .1 .1 .1 .1 .1 .1 .1 .1 .1 .1 .1 .1 .1 .0
-
-same-length-28 : tie.Need-same-length-28
-same-length-28 c = let t : tie.After-choose = c .before .before in counted (chose t) .count-pass .kept .1 .1 .1 .1 .1 .1 .1 .1 .1 .1 .1 .1 .1 .1 .1 .1 .0
-
-same-length-29 : tie.Need-same-length-29
-same-length-29 c = let t : tie.After-choose = c .before .before in t .choose .kept .1 .1 .1 .1 .1 .1 .1 .1 .1 .1 .1 .0
+same-length-21 c = let t : tie.After-choose = c .before .before in t .choose .kept .1 .1 .1 .1 .1 .1 .1 .1 .1 .1 .1 .0
 
 returns-2 : tie.Need-returns-2
 returns-2 c =
@@ -287,9 +253,8 @@ returns-2 c =
       plan = λ h.
           planned (now (a .nodes)) (now (a .wires)) (now (a .obstacles)) (a .stage) (right s) (Lo t) (Hi t) (Host t) (Fixed t) (Gates t) (t .scan .ensures .0 .0) (t .scan .ensures .0 .1)
           (t .scan .ensures .0 .2) (a .limit) (t .scan .ensures .1 .0) (t .scan .ensures .1 .1)
-          (Cut d) (Fewest d) (Any d) (Anyweight d) (Count d) (Lightest d) (Ungatable d) (Ungated d) (Near d) (worked e)
-          (u .choose .ensures .0) (u .choose .last .1 .1 .1 .1 .1 .1 .1 .1 .1 .1 .1 .0) (λ r p. u .choose .ensures .1 r (omega (arith, nodes-are t))) (d .count-pass .result .points)
-          (subst (λ (m : ℕ). d .count-pass .result .points ≡ rootSum m (Lo t) (Fewest d)) (nodes-are t) (d .count-pass .ensures .1 .1 h));
+          (Cut d) (Any d) (Anyweight d) (Ungatable d) (Near d) (d .count-pass .result .points) (worked e)
+          (u .choose .ensures .0) (u .choose .last .1 .1 .1 .1 .1 .1 .1 .1 .1 .1 .1 .0) (λ r p. u .choose .ensures .1 r (omega (arith, nodes-are t)));
     }
 
 pub run-spec : {M : Type 1} → statement M
@@ -309,12 +274,12 @@ run-spec =
     same-length-8
     same-length-9
     same-length-10
+    returns
+    choose-requires
     same-length-11
     same-length-12
     same-length-13
     same-length-14
-    returns
-    choose-requires
     same-length-15
     same-length-16
     same-length-17
@@ -322,12 +287,4 @@ run-spec =
     same-length-19
     same-length-20
     same-length-21
-    same-length-22
-    same-length-23
-    same-length-24
-    same-length-25
-    same-length-26
-    same-length-27
-    same-length-28
-    same-length-29
     returns-2)
