@@ -70,14 +70,16 @@ impl<'a> Net<'a> {
         [x, y, dx, dy]
     }
 
-    /// The positions of the line that an obstacle holds, if it bars position t.
-    fn stretch(line: [i64; 4], o: [u16; 4], t: i64) -> Option<(i64, i64)> {
+    /// The first obstacle that holds position t of a line, and the positions of the line that it holds.
+    fn stretch(&self, line: [i64; 4], t: i64) -> Option<(i64, i64)> {
         let [x, y, dx, dy] = line;
-        let [x1, y1, x2, y2] = o.map(|c| c as i64);
-        let (px, py) = (x + dx * t, y + dy * t);
-        if px < x1 || px > x2 || py < y1 || py > y2 {
-            return None;
-        }
+        let (px, py) = ((x + dx * t) as u16, (y + dy * t) as u16);
+        let corner = |o: &[u8], k: usize| u16::from_le_bytes([o[2 * k], o[2 * k + 1]]);
+        let holds = |o: &&[u8]| {
+            corner(o, 0) <= px && px <= corner(o, 2) && corner(o, 1) <= py && py <= corner(o, 3)
+        };
+        let o = self.obstacles.chunks_exact(8).find(holds)?;
+        let [x1, y1, x2, y2] = [0, 1, 2, 3].map(|k| corner(o, k) as i64);
         Some(match (dx, dy) {
             (1, _) => (x1 - x, x2 - x),
             (-1, _) => (x - x2, x - x1),
@@ -87,23 +89,18 @@ impl<'a> Net<'a> {
     }
 
     pub fn barred(&self, i: usize, t: u64) -> bool {
-        let line = self.line(i);
-        (0..self.obstacles.len() / 8)
-            .any(|k| Self::stretch(line, self.obstacle(k), t as i64).is_some())
+        self.stretch(self.line(i), t as i64).is_some()
     }
 
     /// The highest position at or below t that is not barred, or 0.
     pub fn highest(&self, i: usize, t: u64) -> u64 {
         let line = self.line(i);
         let mut t = t as i64;
-        'again: while t > 0 {
-            for k in 0..self.obstacles.len() / 8 {
-                if let Some((low, _)) = Self::stretch(line, self.obstacle(k), t) {
-                    t = low - 1;
-                    continue 'again;
-                }
+        while t > 0 {
+            match self.stretch(line, t) {
+                Some((low, _)) => t = low - 1,
+                None => return t as u64,
             }
-            return t as u64;
         }
         0
     }
@@ -113,14 +110,11 @@ impl<'a> Net<'a> {
         let line = self.line(i);
         let length = self.length(i) as i64;
         let mut t = 1;
-        'again: while t < length {
-            for k in 0..self.obstacles.len() / 8 {
-                if let Some((_, high)) = Self::stretch(line, self.obstacle(k), t) {
-                    t = high + 1;
-                    continue 'again;
-                }
+        while t < length {
+            match self.stretch(line, t) {
+                Some((_, high)) => t = high + 1,
+                None => return t as u64,
             }
-            return t as u64;
         }
         0
     }
