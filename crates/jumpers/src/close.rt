@@ -25,54 +25,57 @@ fn hangs(lo: &[u64], host: &[usize], r: usize, j: usize) -> bool
     host[j] == r && 0 < lo[j]
 }
 
-// The sum of a value over the branches of cluster r.
-fn branch_sum(lo: &[u64], host: &[usize], values: &[u64], r: usize, n: usize) -> u64
-    requires { ⌜ (n ≤ length (now lo)) × (n ≤ length (now host)) × (n ≤ length (now values)) ⌝ }
-    requires { ⌜ branchSum n (now lo) (now host) r (now values) < 2 ^ 64 ⌝ }
-    requires { ⌜ (r < n) × HungAbove (now lo) (now host) r ⌝ }
-    ensures { λ s. ⌜ s ≡ branchSum n (now (lo .entry)) (now (host .entry)) r (now (values .entry)) ⌝ }
-{
-    let mut sum: u64 = 0;
-    let mut j = r + 1;
-    while j < n {
-        if hangs(lo, host, r, j) {
-            sum += values[j];
-        }
-        j += 1;
-    }
-    sum
+// What the branches of a cluster add up to: the points below them; the least weight that they add; the weight of those that can add no gate, and how many the others are.
+struct Branches {
+    count: u64,
+    lightest: u64,
+    ungated: u64,
+    gated: u64,
 }
 
-// The option that keeps the branches that can add no gate, and cuts the others.
-fn ungated_option(
+// Sums over the branches of cluster r, in one look through the nodes.
+fn sum_branches(
     lo: &[u64],
     host: &[usize],
+    count: &[u64],
+    lightest: &[u64],
     ungatable: &[bool],
     ungated: &[u64],
     r: usize,
     n: usize,
-) -> Choice
-    requires { ⌜ (n ≤ length (now lo)) × (n ≤ length (now host)) × (n ≤ length (now ungatable)) × (n ≤ length (now ungated)) ⌝ }
-    requires { ⌜ flaggedSum n (now lo) (now host) r (now ungatable) (now ungated) < 2 ^ 64 ⌝ }
+) -> Branches
+    requires { ⌜ (n ≤ length (now lo)) × (n ≤ length (now host)) × (n ≤ length (now count)) × (n ≤ length (now lightest)) × (n ≤ length (now ungatable)) × (n ≤ length (now ungated)) ⌝ }
+    requires { ⌜ (branchSum n (now lo) (now host) r (now count) < 2 ^ 64) × (branchSum n (now lo) (now host) r (now lightest) < 2 ^ 64) × (flaggedSum n (now lo) (now host) r (now ungatable) (now ungated) < 2 ^ 64) ⌝ }
     requires { ⌜ (r < n) × HungAbove (now lo) (now host) r ⌝ }
-    ensures { λ o. ⌜ (o .cuts ≡ clearCount n (now (lo .entry)) (now (host .entry)) r (now (ungatable .entry)))
-        × (o .weight ≡ flaggedSum n (now (lo .entry)) (now (host .entry)) r (now (ungatable .entry)) (now (ungated .entry)))
-        × (o .cuts ≤ n) ⌝ }
+    ensures { λ s. ⌜ (s .count ≡ branchSum n (now (lo .entry)) (now (host .entry)) r (now (count .entry)))
+        × (s .lightest ≡ branchSum n (now (lo .entry)) (now (host .entry)) r (now (lightest .entry)))
+        × (s .ungated ≡ flaggedSum n (now (lo .entry)) (now (host .entry)) r (now (ungatable .entry)) (now (ungated .entry)))
+        × (s .gated ≡ clearCount n (now (lo .entry)) (now (host .entry)) r (now (ungatable .entry)))
+        × (s .gated ≤ n) ⌝ }
 {
-    let mut cuts: u64 = 0;
-    let mut weight: u64 = 0;
-    let mut j = r + 1;
+    let mut below: u64 = 0;
+    let mut light: u64 = 0;
+    let mut free: u64 = 0;
+    let mut gated: u64 = 0;
+    let mut j: usize = r + 1;
     while j < n {
         if hangs(lo, host, r, j) {
+            below += count[j];
+            light += lightest[j];
             if ungatable[j] {
-                weight += ungated[j];
+                free += ungated[j];
             } else {
-                cuts += 1;
+                gated += 1;
             }
         }
         j += 1;
     }
-    Choice { cuts, weight }
+    Branches {
+        count: below,
+        lightest: light,
+        ungated: free,
+        gated,
+    }
 }
 
 // Branch j of cluster r is not cut yet and heavier than weight.
@@ -123,16 +126,17 @@ fn cut_heaviest(
     r: usize,
     n: usize,
     fixed: u64,
+    branches: u64,
     limit: u64,
 ) -> Choice
     requires { ⌜ (n ≤ length (now lo)) × (n ≤ length (now host)) × (n ≤ length (now lightest)) × (n ≤ length (now cut)) ⌝ }
-    requires { ⌜ (fixed ≤ limit) × (fixed + branchSum n (now lo) (now host) r (now lightest) < 2 ^ 64) ⌝ }
+    requires { ⌜ (fixed ≤ limit) × (fixed + branchSum n (now lo) (now host) r (now lightest) < 2 ^ 64) × (branches ≡ branchSum n (now lo) (now host) r (now lightest)) ⌝ }
     requires { ⌜ ((j : ℕ) → j < n → hung (now lo) (now host) r j ≡ true → getD (now cut) j false ≡ false) ⌝ }
     requires { ⌜ (r < n) × HungAbove (now lo) (now host) r ⌝ }
     ensures { λ o. ⌜ Cutting n (now (lo .entry)) (now (host .entry)) (now (lightest .entry)) (now (cut .entry)) (now (cut .exit)) r fixed limit (o .cuts) (o .weight)
         × (o .weight ≤ limit) ⌝ }
 {
-    let mut left = fixed + branch_sum(lo, host, lightest, r, n);
+    let mut left = fixed + branches;
     let mut cuts: u64 = 0;
     while limit < left {
         let heavy = heaviest(lo, host, lightest, cut, r, n);
@@ -176,7 +180,7 @@ pub fn close(
     ensures { λ x. ⌜ Closes n (now (lo .entry)) (now (host .entry)) (now (count .entry)) (now (lightest .entry)) (now (ungatable .entry)) (now (ungated .entry)) (now (cut .entry)) (now (cut .exit)) r fixed gates limit
         (x .fewest) (x .any) (x .anyweight) (x .ungated) (x .ungatedweight) (x .hopeless) ⌝ }
 {
-    let below = branch_sum(lo, host, count, r, n);
+    let all = sum_branches(lo, host, count, lightest, ungatable, ungated, r, n);
     if limit < fixed {
         if 0 < gates {
             return Closing {
@@ -188,10 +192,9 @@ pub fn close(
                 hopeless: true,
             };
         }
-        let o = ungated_option(lo, host, ungatable, ungated, r, n);
-        let weight = fixed + o.weight;
+        let weight = fixed + all.ungated;
         return Closing {
-            fewest: below + o.cuts,
+            fewest: all.count + all.gated,
             any: false,
             anyweight: weight,
             ungated: true,
@@ -199,33 +202,32 @@ pub fn close(
             hopeless: false,
         };
     }
-    let a = cut_heaviest(lo, host, lightest, cut, r, n, fixed, limit);
-    let fewest = below + a.cuts;
+    let some = cut_heaviest(lo, host, lightest, cut, r, n, fixed, all.lightest, limit);
+    let fewest = all.count + some.cuts;
     if 0 < gates {
         return Closing {
             fewest,
             any: true,
-            anyweight: a.weight,
+            anyweight: some.weight,
             ungated: false,
             ungatedweight: 0,
             hopeless: false,
         };
     }
-    let o = ungated_option(lo, host, ungatable, ungated, r, n);
-    if a.cuts < o.cuts {
+    if some.cuts < all.gated {
         return Closing {
             fewest,
             any: true,
-            anyweight: a.weight,
+            anyweight: some.weight,
             ungated: false,
             ungatedweight: 0,
             hopeless: false,
         };
     }
-    let weight = fixed + o.weight;
-    if o.cuts < a.cuts {
+    let weight = fixed + all.ungated;
+    if all.gated < some.cuts {
         return Closing {
-            fewest: below + o.cuts,
+            fewest: all.count + all.gated,
             any: false,
             anyweight: weight,
             ungated: true,
@@ -236,7 +238,7 @@ pub fn close(
     Closing {
         fewest,
         any: true,
-        anyweight: a.weight,
+        anyweight: some.weight,
         ungated: true,
         ungatedweight: weight,
         hopeless: false,

@@ -8,24 +8,21 @@ use Rattle.jumpers.proofs.close.cut_heaviest.Statement.{statement}
 use Rattle.jumpers.proofs.close.cut_heaviest.Tie as tie
 
 abbrev Inv-loop : tie.InvT-loop
-Inv-loop lo host lightest cut₀ r n fixed limit left₀ cuts₀ cut left cuts = Cutting n lo host lightest cut₀ cut r fixed limit cuts left × (cuts + left ≤ fixed + branchSum n lo host r lightest)
+Inv-loop lo host lightest cut₀ r n fixed branches limit left₀ cuts₀ cut left cuts = Cutting n lo host lightest cut₀ cut r fixed limit cuts left × (cuts + left ≤ fixed + branchSum n lo host r lightest)
 
 abbrev μ-loop : tie.MeasureT-loop
-μ-loop lo host lightest cut₀ r n fixed limit left₀ cuts₀ cut left cuts = left
-
-branch-sum-requires : tie.Need-branch-sum-requires Inv-loop μ-loop
-branch-sum-requires c κs = let p = c .before .before .before .before .pre in ((p .0 .0, p .0 .1, p .0 .2), (omega arith, p .1 .1 .1))
+μ-loop lo host lightest cut₀ r n fixed branches limit left₀ cuts₀ cut left cuts = left
 
 add-left : tie.Need-add-left Inv-loop μ-loop
 add-left c = omega arith
 
 loop-holds : tie.Need-loop-holds Inv-loop μ-loop
 loop-holds c =
-    let s = c .before .before .before .before .before in
+    let s = c .before .before .before .before in
     (cutting-start _ _ _ _ _ _ _ _ _ (s .pre .1 .1 .0) (omega arith), omega arith)
 
 heaviest-requires : tie.Need-heaviest-requires Inv-loop μ-loop
-heaviest-requires c κs = (omega arith, c .before .before .before .before .before .before .before .before .pre .1 .1 .1)
+heaviest-requires c κs = (omega arith, c .before .before .before .before .before .before .before .pre .1 .1 .1)
 
 slice-write-cut : tie.Need-slice-write-cut Inv-loop μ-loop
 slice-write-cut c =
@@ -76,7 +73,6 @@ cut-heaviest-spec =
     (tie.spec
     Inv-loop
     μ-loop
-    branch-sum-requires
     add-left
     loop-holds
     heaviest-requires
