@@ -1,6 +1,6 @@
 # make demo     build what is needed, and report, repair and draw a sample net
 # make test     prove every crate, build the library, run the Rust tests; the last line is 'N passed, M failed'
-# make bench    the proved library against plain Rust, as ratios
+# make bench    the proved library against plain Rust, as ratios, and the stack that each call takes
 # make fuzz     all four calls against the independent implementation under libFuzzer, for SECONDS (3600)
 # make install  library, header, pkg-config file, programs and man pages under PREFIX
 

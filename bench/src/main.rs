@@ -1,6 +1,8 @@
 //! The proved library against the plain Rust program of the same method, in one run.
 //!
-//! Batches of the two alternate; the fastest batch of each counts.
+//! Batches of the two alternate; the fastest batch of each counts. Then the stack that each call of the library takes.
+
+mod stack;
 
 use antenna_tests::generate::{net, Shape};
 use antenna_tests::library;
@@ -133,7 +135,7 @@ fn repair() {
         "repair, 1,000 nets of 256 nodes",
         race(1, repair(library::repair), repair(plain::repair::repair)),
     );
-    for (k, net) in worst().into_iter().enumerate() {
+    for (name, net) in worst() {
         let file = net.file();
         let total: u64 = (1..256).map(|i| net.weight(i)).sum();
         let repair = |call: Repair| {
@@ -144,14 +146,40 @@ fn repair() {
             }
         };
         print(
-            &format!("repair, worst kind {k}"),
+            &format!("repair, {name}"),
             race(1, repair(library::repair), repair(plain::repair::repair)),
         );
     }
+}
+
+fn stack() {
+    let shape = Shape {
+        nodes: 256,
+        longest: 200,
+        obstacles: 16,
+    };
+    let net = net(&mut Random::new(4), shape);
+    let total: u64 = (1..256).map(|i| net.weight(i)).sum();
+    let limit = (total / 7) as u32;
+    let (file, list) = (net.file(), list_of(&free_points(&net, 16)));
+    let none = stack::taken(|| {});
+    let print = |what: &str, taken: usize| println!("stack, {what}: {} bytes", taken - none);
+    let read = || assert!(library::read(&file).number == 0);
+    print("read", stack::taken(read));
+    let mut out = vec![0; 12 * (256 + list.len() / 3)];
+    let report = || assert!(library::report(16, limit, &file, &list, &mut out).number == 0);
+    print("report", stack::taken(report));
+    let mut out = vec![0; 1530];
+    let repair = || {
+        let answer = library::repair(16, limit, &file, &mut out);
+        assert!(answer.number == 0 && answer.count > 0);
+    };
+    print("repair", stack::taken(repair));
 }
 
 fn main() {
     read_and_write();
     report();
     repair();
+    stack();
 }

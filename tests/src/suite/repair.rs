@@ -310,7 +310,7 @@ pub fn shortcuts(repair: Repair) {
 /// Deep, wide and heavily barred nets with the longest wires; milliseconds of the slowest.
 pub fn worst_nets(repair: Repair) -> f64 {
     let mut slowest = 0.0f64;
-    for net in worst() {
+    for (_, net) in worst() {
         let file = net.file();
         let total: u64 = (1..net.nodes.len()).map(|i| net.weight(i)).sum();
         for limit in [0, 1, 255, 65535, total / 200, total / 7, total / 2, total] {
@@ -324,7 +324,7 @@ pub fn worst_nets(repair: Repair) -> f64 {
 }
 
 /// Nets that are hard on time: a star of 255 arms, chains of 255, 256 obstacles over every wire, lengths of 65,535.
-pub fn worst() -> Vec<Net> {
+pub fn worst() -> Vec<(&'static str, Net)> {
     let star = |length: u16, obstacles: Vec<Obstacle>| -> Net {
         Net {
             nodes: (0..256)
@@ -381,14 +381,29 @@ pub fn worst() -> Vec<Net> {
     let mut turned = comb(1, 250, 0);
     turned.reverse();
     vec![
-        star(65535, Vec::new()),
-        star(65535, comb(1, 250, 0)),
-        star(65535, turned.clone()),
-        star(40000, comb(1, 100, 1)),
-        to_and_fro(Vec::new()),
-        to_and_fro(comb(1, 250, 0)),
-        to_and_fro(turned),
-        to_and_fro(comb(1, 254, 1)),
+        ("star, no obstacle", star(65535, Vec::new())),
+        (
+            "star, barred but for its ends",
+            star(65535, comb(1, 250, 0)),
+        ),
+        (
+            "star, barred but for its ends, turned",
+            star(65535, turned.clone()),
+        ),
+        (
+            "star, open at every 101st step",
+            star(40000, comb(1, 100, 1)),
+        ),
+        ("chain, no obstacle", to_and_fro(Vec::new())),
+        (
+            "chain, barred but for its ends",
+            to_and_fro(comb(1, 250, 0)),
+        ),
+        ("chain, barred but for its ends, turned", to_and_fro(turned)),
+        (
+            "chain, open at every 255th step",
+            to_and_fro(comb(1, 254, 1)),
+        ),
     ]
 }
 
