@@ -1,6 +1,6 @@
-//! Files that the documents name are there.
+//! What the documents name is there.
 
-use std::path::Path;
+use std::path::{Path, PathBuf};
 
 /// Words that look like paths of the repository: in backquotes, or the target of a link. Patterns and what is built are left out.
 fn paths(text: &str) -> Vec<String> {
@@ -32,7 +32,6 @@ fn paths(text: &str) -> Vec<String> {
 
 #[test]
 fn named_files_are_there() {
-    let root = Path::new(env!("CARGO_MANIFEST_DIR")).join("..");
     let mut checked = 0;
     for document in [
         "README.md",
@@ -41,11 +40,120 @@ fn named_files_are_there() {
         "docs/INTERFACE.md",
         "docs/CONTRIBUTING.md",
     ] {
-        let text = std::fs::read_to_string(root.join(document)).expect(document);
+        let text = std::fs::read_to_string(root().join(document)).expect(document);
         for path in paths(&text) {
-            assert!(root.join(&path).exists(), "{document} names {path}");
+            assert!(root().join(&path).exists(), "{document} names {path}");
             checked += 1;
         }
     }
     assert!(checked > 20);
+}
+
+fn root() -> PathBuf {
+    Path::new(env!("CARGO_MANIFEST_DIR")).join("..")
+}
+
+/// The cells of the tables of docs/TRUST.md, a row each.
+fn rows_of_trust() -> Vec<Vec<String>> {
+    let text = std::fs::read_to_string(root().join("docs/TRUST.md")).unwrap();
+    let rows = text.lines().filter(|line| line.starts_with("| "));
+    let cells = |row: &str| {
+        let row = row.trim_matches('|');
+        row.split(" | ").map(|cell| cell.trim().into()).collect()
+    };
+    rows.map(cells).collect()
+}
+
+/// The words in backquotes, each with what stands before it.
+fn quoted(cell: &str) -> Vec<(&str, &str)> {
+    let parts: Vec<&str> = cell.split('`').collect();
+    parts
+        .chunks_exact(2)
+        .map(|pair| (pair[0], pair[1]))
+        .collect()
+}
+
+fn declares(file: &Path, name: &str) -> bool {
+    let text = std::fs::read_to_string(file).unwrap();
+    ["", "record ", "data "]
+        .iter()
+        .any(|kind| text.contains(&format!("pub {kind}{name} ")))
+}
+
+/// A theorem that TRUST.md names in a file is declared there.
+#[test]
+fn theorems_are_there() {
+    let mut checked = 0;
+    for row in rows_of_trust() {
+        let mut folder = PathBuf::new();
+        let mut names = Vec::new();
+        for (_, word) in quoted(&row[1]) {
+            if !word.ends_with(".antt") {
+                names.push(word);
+                continue;
+            }
+            let file = if word.contains('/') {
+                root().join(word)
+            } else {
+                folder.join(word)
+            };
+            for name in names.drain(..) {
+                assert!(declares(&file, name), "{name} in {}", file.display());
+                checked += 1;
+            }
+            folder = file.parent().unwrap().into();
+        }
+    }
+    assert!(checked > 25);
+}
+
+/// An edit or a theorem that TRUST.md sets against a wrong program is there.
+#[test]
+fn refused_programs() {
+    let mut checked = 0;
+    let rows = rows_of_trust();
+    let table = rows.iter().skip_while(|row| row[0] != "wrong program");
+    for row in table.skip(1) {
+        let mut by = "";
+        for (before, name) in quoted(&row[1]) {
+            let word = before.trim_matches([' ', ',', ';']);
+            if !word.is_empty() {
+                by = word;
+            }
+            if by == "theorem" {
+                let file = root().join("crates/antenna/specs/Excluded.antt");
+                assert!(declares(&file, name), "{name}");
+            } else {
+                let edit = root().join(format!("crates/{by}/must-fail/{name}.edit"));
+                assert!(edit.exists(), "{}", edit.display());
+            }
+            checked += 1;
+        }
+    }
+    assert!(checked > 20);
+}
+
+/// The definitions that TRUST.md asks to read are as long as it says.
+#[test]
+fn definitions_are_as_long_as_said() {
+    let mut total = 0;
+    for row in rows_of_trust() {
+        let Ok(said) = row[1].parse::<usize>() else {
+            continue;
+        };
+        let mut folder = PathBuf::new();
+        let mut lines = 0;
+        for (_, word) in quoted(&row[0]) {
+            let file = if word.contains('/') {
+                root().join(word)
+            } else {
+                folder.join(word)
+            };
+            lines += std::fs::read_to_string(&file).unwrap().lines().count();
+            folder = file.parent().unwrap().into();
+        }
+        assert_eq!(lines, said, "{}", row[0]);
+        total += lines;
+    }
+    assert!((700..800).contains(&total), "{total}");
 }
