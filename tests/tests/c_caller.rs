@@ -1,4 +1,4 @@
-//! The C programs of examples/, built with gcc and linked with the library.
+//! C and C++ programs built with gcc and g++ and linked with the library.
 
 use std::path::{Path, PathBuf};
 use std::process::Command;
@@ -7,19 +7,20 @@ fn root() -> PathBuf {
     Path::new(env!("CARGO_MANIFEST_DIR")).join("..")
 }
 
-/// The example builds without a warning, and prints what its .txt file holds.
-fn prints(name: &str) {
+/// What a program prints, built from its source without a warning.
+fn printed(compiler: &str, options: &[&str], source: &Path) -> String {
+    let name = source.file_stem().unwrap();
     let program = Path::new(env!("CARGO_TARGET_TMPDIR")).join(name);
-    let built = Command::new("gcc")
-        .args(["-std=c99", "-Wall", "-Wextra", "-Werror", "-pedantic"])
-        .args(["-g", "-O1", "-fsanitize=address,undefined", "-I"])
+    let built = Command::new(compiler)
+        .args(options)
+        .args(["-Wall", "-Wextra", "-Werror", "-pedantic", "-I"])
         .arg(root().join("include"))
-        .arg(root().join(format!("examples/{name}.c")))
+        .arg(source)
         .arg(root().join("target/staticlib/libantenna.a"))
         .arg("-o")
         .arg(&program)
         .output()
-        .expect("gcc runs");
+        .expect("the compiler runs");
     assert!(
         built.status.success(),
         "{}",
@@ -31,8 +32,15 @@ fn prints(name: &str) {
         "{}",
         String::from_utf8_lossy(&ran.stderr)
     );
-    let expected = std::fs::read_to_string(root().join(format!("examples/{name}.txt"))).unwrap();
-    assert_eq!(String::from_utf8_lossy(&ran.stdout), expected);
+    String::from_utf8(ran.stdout).unwrap()
+}
+
+/// An example prints what its .txt file holds.
+fn prints(name: &str) {
+    let options = ["-std=c99", "-g", "-O1", "-fsanitize=address,undefined"];
+    let source = root().join(format!("examples/{name}.c"));
+    let expected = std::fs::read_to_string(source.with_extension("txt")).unwrap();
+    assert_eq!(printed("gcc", &options, &source), expected);
 }
 
 #[test]
@@ -48,33 +56,8 @@ fn editor() {
 /// The header is C++ too, and its calls keep their C names there.
 #[test]
 fn header_in_cpp() {
-    let program = Path::new(env!("CARGO_TARGET_TMPDIR")).join("header");
-    let source = program.with_extension("cpp");
-    std::fs::write(
-        &source,
-        "#include <antenna.h>\nint main() { return antenna_read(nullptr, 0).number == ANTENNA_HEAD ? 0 : 1; }\n",
-    )
-    .unwrap();
-    let built = Command::new("g++")
-        .args([
-            "-std=c++11",
-            "-Wall",
-            "-Wextra",
-            "-Werror",
-            "-pedantic",
-            "-I",
-        ])
-        .arg(root().join("include"))
-        .arg(&source)
-        .arg(root().join("target/staticlib/libantenna.a"))
-        .arg("-o")
-        .arg(&program)
-        .output()
-        .expect("g++ runs");
-    assert!(
-        built.status.success(),
-        "{}",
-        String::from_utf8_lossy(&built.stderr)
-    );
-    assert!(Command::new(program).status().expect("it runs").success());
+    let source = Path::new(env!("CARGO_TARGET_TMPDIR")).join("header.cpp");
+    let text = "#include <antenna.h>\nint main() { return antenna_read(nullptr, 0).number == ANTENNA_HEAD ? 0 : 1; }\n";
+    std::fs::write(&source, text).unwrap();
+    assert_eq!(printed("g++", &["-std=c++11"], &source), "");
 }

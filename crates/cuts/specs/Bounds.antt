@@ -211,13 +211,6 @@ module _ (c : Clusters) (limit : ℕ) (d : Down) (s : Sound c) (m : ℕ) (counte
       let b = count-all r p in
       record { any = omega (arith, w .any); ungated = λ y. omega (arith, w .ungated y); count = omega (arith, w .count) }
 
-  pub branch-bounded : (j : ℕ) → m ≤ j → j < c .nodes → c .cuttable j ≡ true → BranchBounded c d j
-  branch-bounded j from p cj =
-      let w = all-branches j p from cj in
-      let a = weight-all j p in
-      let b = count-all j p in
-      record { light = omega (arith, w .light); ungated = λ y. omega (arith, w .ungated y); count = omega (arith, w .count) }
-
   -- the points of the clusters from number m on that hang on none
   pub total-bounded : sum (c .nodes) (λ r. χ (leb m r && not (c .cuttable r)) (d .fewest r)) ≤ 2 * c .nodes
   total-bounded =

@@ -2,12 +2,12 @@
 -- Assumes nothing.
 use Prim.Native.Nat.{ℕ, _≤_, _<_}
 use mathlib.Core.Path.{_≡_, sym, _∙_, ap}
-use mathlib.Core.Bool.{true, false, not, _&&_}
+use mathlib.Core.Bool.{true, not, _&&_}
 use native.Mathlib.Omega.{arith}
 use lib.Dec.{leb, ltb}
 use borrow.Author.Tests.{leb-true, ltb-true, not-true, le-leb, lt-ltb}
 use Rattle.laws.specs.Sum.{sum}
-use Rattle.laws.specs.Sums.{by, and-left, and-right, and-intro, and-no-left, and-no-right, up}
+use Rattle.laws.specs.Sums.{by, and-left, and-right, and-intro, and-no-right, up}
 use Rattle.net.specs.Stage.{Stage, Formed}
 use Rattle.pieces.specs.Legal.{Free}
 use Rattle.cuts.specs.Cluster.{Clusters, Sound}
@@ -88,9 +88,6 @@ module _ (s : Stage) (c : Clusters) (root component : ℕ → ℕ) (formed : For
 
   pub cuttable-root : (i : ℕ) → i < s .nodes → c .cuttable i ≡ true → root i ≡ i
   cuttable-root i p k = fits .root-own i p (and-no-right (s .present i) (ap not k))
-
-  pub absent-root : (i : ℕ) → i < s .nodes → s .present i ≡ false → root i ≡ i
-  absent-root i p a = fits .root-own i p (and-no-left (not (c .cuttable i)) a)
 
   pub host-< : (i : ℕ) → i < s .nodes → c .cuttable i ≡ true → c .host i < i
   host-< i p k =

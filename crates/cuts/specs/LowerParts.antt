@@ -1,5 +1,5 @@
 -- In a good set every part of a piece with a gate weighs at most the limit, since what hangs below a part is no heavier than the part. So a cluster that has a gate and a
--- fixed weight above the limit leaves no good set. A set that is good at a limit is good at a higher one.
+-- fixed weight above the limit leaves no good set.
 -- Assumes nothing.
 use Prim.Native.Nat.{ℕ, _+_, _≤_, _<_}
 use mathlib.Core.Path.{_≡_, refl, ap}
@@ -100,20 +100,3 @@ pub hopeless :
 hopeless c limit e p s g r lt gated over =
     lt-irrefl 0
     (omega (arith, g .weight-is r lt, g .gates-is r lt, part-light c limit e p s g r lt (omega (arith, g .gates-is r lt))))
-
-pub good-higher :
-    (c : Clusters) (limit higher : ℕ) (e : Effect) (p : Parts) → limit ≤ higher → Good c limit e p → Good c higher e p
-good-higher c limit higher e p le g =
-    record {
-      first-free = g .first-free;
-      last-free = g .last-free;
-      in-order = g .in-order;
-      some = g .some;
-      alone = g .alone;
-      adds-cut = g .adds-cut;
-      adds-whole = g .adds-whole;
-      weight-is = g .weight-is;
-      gates-is = g .gates-is;
-      root-light = λ r lt root gated. omega (arith, g .root-light r lt root gated);
-      cut-light = λ j lt cuttable cut gated. omega (arith, g .cut-light j lt cuttable cut gated);
-    }

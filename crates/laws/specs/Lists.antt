@@ -1,7 +1,7 @@
 -- Lists as loops write them: what was written at the start of a list, with what was there behind it.
 -- Assumes nothing.
 use Prim.Native.Nat.{ℕ, _+_, _-_, _≤_, _<_}
-use mathlib.Core.Path.{_≡_, _∙_, refl, ap}
+use mathlib.Core.Path.{_≡_, _∙_, ap}
 use mathlib.Core.List.{List, [], _∷_, _++_, append-assoc, append-nil}
 use native.Mathlib.Numerals.{add-one}
 use native.Mathlib.Omega.{arith}
@@ -14,10 +14,6 @@ over p l = p ++ drop (length p) l
 
 pub length-over : (p l : List ℕ) → length p ≤ length l → length (over p l) ≡ length l
 length-over p l h = simp (length-append, length-drop) (omega arith)
-
--- nothing written
-pub over-nil : (l : List ℕ) → over [] l ≡ l
-over-nil l = refl
 
 -- a byte stored behind p
 pub over-push : (p l : List ℕ) (i x : ℕ) → length p ≡ i → i < length l → set (over p l) i x ≡ over (p ++ x ∷ []) l

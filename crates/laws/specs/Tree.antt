@@ -7,7 +7,7 @@ use native.Mathlib.Omega.{arith}
 use lib.Dec.{eqb}
 use borrow.Author.Tests.{eq-eqb, eqb-true}
 use Rattle.laws.specs.Sum.{χ, sum}
-use Rattle.laws.specs.Sums.{by, and-left, and-right, and-intro, χ-yes, χ-mono, χ-ap, χ-+, χ-split, sum-ap, sum-≤, sum-+, sum-pick′, sum-regroup, term-≤, up, down}
+use Rattle.laws.specs.Sums.{by, and-left, and-right, and-intro, χ-yes, χ-ap, χ-+, χ-split, sum-ap, sum-+, sum-pick′, sum-regroup, term-≤, up}
 
 -- y at node i and at all below it, at most k levels deep; child i j: node j is a child of node i
 unfoldable pub treeSum : ℕ → ℕ → (ℕ → ℕ → Bool) → (ℕ → ℕ) → ℕ → ℕ
@@ -41,40 +41,6 @@ treeSum-more n child y rising (suc k) i p q =
 pub tree-is : (n : ℕ) (child : ℕ → ℕ → Bool) (y : ℕ → ℕ) → Rising n child → IsTree n child y (tree n child y)
 unfolding tree treeSum
 tree-is n child y rising i p = treeSum-more n child y rising n i p (omega arith)
-
--- more at each node, more in the tree sum
-pub tree-mono :
-    (n : ℕ) (child : ℕ → ℕ → Bool) (y z T U : ℕ → ℕ) →
-    Rising n child →
-    IsTree n child y T →
-    IsTree n child z U →
-    ((i : ℕ) → i < n → y i ≤ z i) →
-    (i : ℕ) → i < n → T i ≤ U i
-tree-mono n child y z T U rising t u less =
-    down n
-    (λ i. T i ≤ U i)
-    (λ i p below.
-    let a = t i p in
-    let b = u i p in
-    let c = less i p in
-    let d =
-    sum-≤ n
-    {f = λ j. χ (child i j) (T j)}
-    {g = λ j. χ (child i j) (U j)}
-    (λ j lt. χ-mono (child i j) (λ yes. below j (rising i j p lt yes) lt)) in
-    omega arith)
-
--- the local equation has one solution
-pub tree-unique :
-    (n : ℕ) (child : ℕ → ℕ → Bool) (y T U : ℕ → ℕ) →
-    Rising n child →
-    IsTree n child y T →
-    IsTree n child y U →
-    (i : ℕ) → i < n → T i ≡ U i
-tree-unique n child y T U rising t u i p =
-    let a = tree-mono n child y y T U rising t u (λ j lt. omega arith) i p in
-    let b = tree-mono n child y y U T rising u t (λ j lt. omega arith) i p in
-    omega arith
 
 pub joined-rising : (n : ℕ) (joined : ℕ → Bool) (par : ℕ → ℕ) → ((j : ℕ) → j < n → joined j ≡ true → par j < j) → Rising n (joinedTo joined par)
 joined-rising n joined par lower i j p q is =

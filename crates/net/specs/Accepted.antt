@@ -8,7 +8,7 @@ use mathlib.Core.Logic.{_⊎_, ⊎-map}
 use native.Mathlib.Omega.{arith}
 use lib.ListN.{length}
 use lib.Dec.{leb, ltb, eqb}
-use borrow.Author.Tests.{ltb-true, ltb-false, leb-true, eqb-true, eqb-false, not-false, lt-ltb, le-leb}
+use borrow.Author.Tests.{ltb-true, ltb-false, eqb-true, eqb-false, not-false}
 use Rattle.laws.specs.Sums.{and-left, and-right, or-no-left, or-no-right}
 use Rattle.net.specs.Layout.{headBytes, nodeBytes, wireBytes, obstacleBytes, mostNodes, mostObstacles, mostLayers, mostFlags}
 use Rattle.net.specs.Net.{nodeCount, nodeX, nodeY, nodeFlags, wireParent, wireLayer, wireFactor, obstacleCount, obstacleX1, obstacleY1, obstacleX2, obstacleY2}
@@ -188,10 +188,6 @@ module _ (ns ws os : List ℕ) where
   pub net-right : netRefusal ns ws os ≡ none → NetRight ns ws os
   net-right e = net-right-of (ap met e)
 
-  -- a wire's record lies in its section
-  pub wire-inside : Sized ns ws os → (i : ℕ) → 0 < i → i < nodeCount ns → wireBytes * i ≤ length ws
-  wire-inside s i p h = omega (arith, s .wires-length)
-
   -- a wire is present at a stage if it is a wire of the net and its layer is at most the stage
   module _ (k i : ℕ) (p : stageOf ns ws os k .present i ≡ true) where
     pub present-positive : 0 < i
@@ -204,13 +200,6 @@ module _ (ns ws os : List ℕ) where
 
     pub present-inside : i < nodeCount ns
     present-inside = ltb-true _ _ (and-left (ltb i (nodeCount ns)) (leb (wireLayer ws i) k) inside-layer)
-
-    pub present-layer : wireLayer ws i ≤ k
-    present-layer = leb-true _ _ (and-right (ltb i (nodeCount ns)) (leb (wireLayer ws i) k) inside-layer)
-
-  pub present-if : (k i : ℕ) → 0 < i → i < nodeCount ns → wireLayer ws i ≤ k → stageOf ns ws os k .present i ≡ true
-  unfolding stageOf
-  present-if k i p h l = rw (lt-ltb _ _ p, lt-ltb _ _ h, le-leb _ _ l)
 
   pub formed : NetRight ns ws os → (k : ℕ) → Formed (stageOf ns ws os k)
   unfolding stageOf

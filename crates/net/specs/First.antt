@@ -72,10 +72,6 @@ module _ (a b : Refusal) where
 
 -- the first of the records in order
 module _ (f : ℕ → Refusal) where
-  pub first-suc : (n : ℕ) → firstOf (suc n) f ≡ orElse (firstOf n f) (f n)
-  unfolding firstOf
-  first-suc n = refl
-
   pub first-unmet : (n : ℕ) → met (firstOf n f) ≡ false → (i : ℕ) → i < n → met (f i) ≡ false
   unfolding firstOf
   first-unmet zero e i h = absurd (omega arith)

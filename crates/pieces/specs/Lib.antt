@@ -14,3 +14,4 @@ pub mod Reports
 pub mod Weight
 pub mod Size
 pub mod Outer
+pub mod Limits

@@ -11,7 +11,7 @@ use Rattle.laws.specs.Sums.{by, no-both, not-true-false, and-left, and-right, a
 use Rattle.net.specs.Stage.{Stage, Formed}
 use Rattle.pieces.specs.Piece.{Points, Element, node, step, Real, a-node, a-step, Touch, along, foot, head, via, Connected, touching, same, back, chain, Group, Piece}
 use Rattle.pieces.specs.Name.{Inside, firstJumper, lastJumper, lowestNode, numberOf, positionOf, isReal, named}
-use Rattle.pieces.specs.Lowest.{lowestNode-≤, lowestNode-again}
+use Rattle.pieces.specs.Lowest.{lowestNode-≤}
 use Rattle.pieces.specs.Jumpers.{step-cases, number-mid, position-low, position-high, position-mid}
 use Rattle.pieces.specs.Names.{connected-name, name-connected}
 
@@ -103,17 +103,6 @@ module _ (s : Stage) (J : Points) (formed : Formed s) (inside : Inside s J) wher
   -- no node of a node's piece is lower than its lowest node
   pub lowestNode-least : (i k : ℕ) → Connected s J (node i) (node k) → lowestNode s J i ≤ k
   lowestNode-least i k c = let e = connected-name s J formed inside c .0 in let l = lowestNode-≤ s J formed k in omega arith
-
-  -- a piece with nodes is named by its lowest node, which is in it
-  pub lowest-named : (h k : ℕ) → named s J h 0 (node k) ≡ true → (h ≤ k) × (named s J h 0 (node h) ≡ true)
-  lowest-named h k y =
-      let e : lowestNode s J k ≡ h = named-number s J h 0 (node k) y in
-      let l = lowestNode-≤ s J formed k in
-      let again : lowestNode s J h ≡ h = rw e at (lowestNode-again s J formed k) in
-      (omega arith, named-yes s J (node h) (a-node (below (named-real s J h 0 (node k) y) (omega arith))) again refl)
-    where
-      below : Real s (node k) → h ≤ k → h < s .nodes
-      below r q = let l = ltb-true k (s .nodes) (real-is s r) in omega arith
 
   -- a name with a position above 0 has no node
   pub stretch-no-node : (n p k : ℕ) → 1 ≤ p → named s J n p (node k) ≡ false

@@ -1,6 +1,6 @@
 -- What an accepted jumper list holds: its entries lie where a wire may be cut, they rise, and its set has one point for each.
 -- Assumes nothing.
-use Prim.Native.Nat.{ℕ, zero, suc, _-_, _*_, _%_, _≤_, _<_}
+use Prim.Native.Nat.{ℕ, zero, suc, _-_, _%_, _≤_, _<_}
 use mathlib.Core.Path.{_≡_, refl, sym, _∙_, ap, fun-ext}
 use mathlib.Core.Bool.{Bool, true, false, not, _&&_, _||_}
 use mathlib.Core.Logic.{⊎-elim}
@@ -10,7 +10,7 @@ use lib.ListN.{length}
 use lib.Dec.{leb, ltb, eqb}
 use borrow.Author.Tests.{ltb-true, leb-true, eqb-true, eq-eqb, not-false}
 use Rattle.laws.specs.Sum.{χ, sum, any}
-use Rattle.laws.specs.Sums.{and-left, and-right, and-intro, no-both, not-true-false, or-cases, any-yes, any-some, χ-≤, sum-≤, sum-bound, last-or-below}
+use Rattle.laws.specs.Sums.{and-left, and-right, and-intro, no-both, not-true-false, or-cases, any-yes, any-some, last-or-below}
 use Rattle.net.specs.Layout.{entryBytes}
 use Rattle.net.specs.Stage.{Stage, Formed}
 use Rattle.net.specs.Refusal.{none, met, orElse, refusedIf, firstOf}
@@ -92,14 +92,6 @@ module _ (s : Stage) (list : List ℕ) (r : listRefusal s list ≡ none) where
   each-unmet e h =
       let r12 = refusedIf (not (eqb (length list % entryBytes) 0)) 12 0 in
       first-unmet (λ e. entryRefusal s list e) (entryCount list) (unmet-r r12 (firstOf (entryCount list) (λ e. entryRefusal s list e)) (ap met r)) e h
-
-  pub list-length : length list ≡ entryBytes * entryCount list
-  unfolding listRefusal
-  list-length =
-      let t = eqb (length list % entryBytes) 0 in
-      let threes : length list % entryBytes ≡ 0 =
-      eqb-true _ _ (not-false t (unmet-if (not t) 12 0 refl (unmet-l (refusedIf (not t) 12 0) (firstOf (entryCount list) (λ e. entryRefusal s list e)) (ap met r)))) in
-      omega arith
 
   pub list-free : EntriesFree s list (entryCount list)
   list-free e h = free-of s list e (each-unmet e h)
@@ -187,12 +179,6 @@ listed-count s formed list (suc n) free rising =
     let c = ap (size s) (less-last list n rising) in
     omega arith
 
--- a set has at most as many points as its wires have steps
-pub size-≤-steps : (s : Stage) (J : Points) → size s J ≤ sum (s .nodes) (λ i. s .len i)
-unfolding size
-size-≤-steps s J =
-    sum-≤ (s .nodes) (λ i h. let a = sum-bound (s .len i) 1 {f = λ t. χ (J i t) 1} (λ t l. χ-≤ (J i t) 1) in omega arith)
-
 -- the set of an accepted list
 module _ (s : Stage) (list : List ℕ) (r : listRefusal s list ≡ none) where
   pub list-set-free : AllFree s (setOf list)
@@ -203,6 +189,3 @@ module _ (s : Stage) (list : List ℕ) (r : listRefusal s list ≡ none) where
 
   pub list-set-size : Formed s → size s (setOf list) ≡ entryCount list
   list-set-size formed = listed-count s formed list (entryCount list) (list-free s list r) (list-rising s list r)
-
-  pub list-count-≤ : Formed s → entryCount list ≤ sum (s .nodes) (λ i. s .len i)
-  list-count-≤ formed = let a = list-set-size formed in let b = size-≤-steps s (setOf list) in omega arith

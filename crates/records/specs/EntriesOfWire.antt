@@ -8,7 +8,7 @@ use native.Mathlib.Omega.{arith}
 use lib.Dec.{ltb, eqb}
 use borrow.Author.Tests.{ltb-true, ltb-false, eqb-true, eqb-false}
 use Rattle.laws.specs.Sum.{highest}
-use Rattle.laws.specs.Sums.{by, not-true-false, any-yes, any-none, lowest-is, highest-is, highest-last}
+use Rattle.laws.specs.Sums.{by, not-true-false, any-yes, any-none, lowest-is, highest-is}
 use Rattle.net.specs.Stage.{Stage}
 use Rattle.pieces.specs.Name.{cutAt, firstJumper, lastJumper}
 use Rattle.pieces.specs.Legal.{entryWire, entryPosition, listed}
@@ -139,10 +139,3 @@ module _ (s : Stage) (list : List ℕ) (n : ℕ) (free : EntriesFree s list n) (
   of-wire-last l =
       highest-is (s .len i) (entryPosition list (b - 1)) (λ t. listed list n i t) (position-inside (b - 1) (omega arith) (omega arith) .1)
       (entry-jumper (b - 1) (omega arith) (omega arith)) (λ t h. none-above t l h)
-
-  -- the highest jumper below a step between two neighbours
-  pub of-wire-below : (e t : ℕ) → a ≤ e → e + 1 < b → entryPosition list e < t → t ≤ entryPosition list (e + 1)
-      → highest t (λ p. listed list n i p) ≡ entryPosition list e
-  of-wire-below e t p q l h =
-      highest-last t (entryPosition list e) (λ p. listed list n i p) l (entry-jumper e p (omega arith))
-      (λ u g v. none-between e u p q g (omega arith))
