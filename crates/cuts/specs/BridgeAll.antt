@@ -27,8 +27,8 @@ NoHopeless c limit = (r : ℕ) → r < c .nodes → 0 < c .gates r → c .fixed 
 
 module _ (s : Stage) (c : Clusters) (root component : ℕ → ℕ) (formed : Formed s) (fits : Fits s c root component) where
   -- node j's component has a source
-  abbrev fed : ℕ → Bool
-  fed j = sourced s component (component j)
+  abbrev withSource : ℕ → Bool
+  withSource j = sourced s component (component j)
 
   -- every cuttable wire of a component without a source is cut at both ends of what may be cut
   abbrev pub allCuts : Effect
@@ -47,17 +47,17 @@ module _ (s : Stage) (c : Clusters) (root component : ℕ → ℕ) (formed : For
   parts = parts-of c sound allCuts
 
   -- a branch and its host are in one component
-  same-fed : (r j : ℕ) → j < c .nodes → hangs c r j ≡ true → fed j ≡ fed r
-  same-fed r j p h =
+  same-source : (r j : ℕ) → j < c .nodes → hangs c r j ≡ true → withSource j ≡ withSource r
+  same-source r j p h =
       let k = and-left (c .cuttable j) (eqb (c .host j) r) h in
       let e = eqb-true (c .host j) r (and-right (c .cuttable j) (eqb (c .host j) r) h) in
       ap (λ (x : ℕ). sourced s component x) (sym (host-component s c root component formed fits j (to-stage s c root component formed fits j p) k) ∙ ap component e)
 
   -- with a source: no gate counts
-  fed-gateless : (r : ℕ) → r < c .nodes → fed r ≡ true → partsOf c allCuts .gates r ≡ 0
-  fed-gateless =
+  source-gateless : (r : ℕ) → r < c .nodes → withSource r ≡ true → partsOf c allCuts .gates r ≡ 0
+  source-gateless =
       down (c .nodes)
-      (λ r. fed r ≡ true → partsOf c allCuts .gates r ≡ 0)
+      (λ r. withSource r ≡ true → partsOf c allCuts .gates r ≡ 0)
       (λ r p above src.
       let a = parts .gates-is r p in
       let b = sourced-gateless s c root component formed fits r (to-stage s c root component formed fits r p) src in
@@ -70,12 +70,12 @@ module _ (s : Stage) (c : Clusters) (root component : ℕ → ℕ) (formed : For
       let h = and-left (hangs c r j) (not (allCuts .cut j)) y in
       let lower = sound .host-below j q (and-left (c .cuttable j) (eqb (c .host j) r) h) in
       let at = eqb-true (c .host j) r (and-right (c .cuttable j) (eqb (c .host j) r) h) in
-      above j (omega arith) q (same-fed r j q h ∙ src))
+      above j (omega arith) q (same-source r j q h ∙ src))
       ∙ χ-zero (hangs c r j && not (allCuts .cut j))) in
       omega arith)
 
   -- without: every branch is cut, so a cluster stands alone
-  alone-gates : (r : ℕ) → r < c .nodes → fed r ≡ false → partsOf c allCuts .gates r ≡ c .gates r
+  alone-gates : (r : ℕ) → r < c .nodes → withSource r ≡ false → partsOf c allCuts .gates r ≡ c .gates r
   alone-gates r p free =
       let a = parts .gates-is r p in
       let z =
@@ -86,11 +86,11 @@ module _ (s : Stage) (c : Clusters) (root component : ℕ → ℕ) (formed : For
       (not-true-false (hangs c r j && not (allCuts .cut j))
       (λ y.
       let h = and-left (hangs c r j) (not (allCuts .cut j)) y in
-      let u : not (not (fed j)) ≡ true = and-right (hangs c r j) (not (allCuts .cut j)) y in
-      no-both u (rw (same-fed r j q h ∙ free))))) in
+      let u : not (not (withSource j)) ≡ true = and-right (hangs c r j) (not (allCuts .cut j)) y in
+      no-both u (rw (same-source r j q h ∙ free))))) in
       omega arith
 
-  alone-weight : (r : ℕ) → r < c .nodes → fed r ≡ false → partsOf c allCuts .weight r ≡ c .fixed r
+  alone-weight : (r : ℕ) → r < c .nodes → withSource r ≡ false → partsOf c allCuts .weight r ≡ c .fixed r
   alone-weight r p free =
       let a = parts .weight-is r p in
       let z =
@@ -100,14 +100,14 @@ module _ (s : Stage) (c : Clusters) (root component : ℕ → ℕ) (formed : For
       χ-ap (hangs c r j) {y = 0}
       (λ h.
       let e : c .hi j - c .hi j ≡ 0 = omega arith in
-      parts .adds-cut j q (and-left (c .cuttable j) (eqb (c .host j) r) h) (ap not (same-fed r j q h ∙ free))
+      parts .adds-cut j q (and-left (c .cuttable j) (eqb (c .host j) r) h) (ap not (same-source r j q h ∙ free))
       ∙ (ap (λ (x : ℕ). c .factor j * x) e ∙ mul-zero (c .factor j)))
       ∙ χ-zero (hangs c r j)) in
       omega arith
 
   module _ (limit : ℕ) (none : NoHopeless c limit) where
     -- a cluster that stands alone is within the limit
-    alone-light : (r : ℕ) → r < c .nodes → 0 < partsOf c allCuts .gates r → fed r ≡ false → partsOf c allCuts .weight r ≤ limit
+    alone-light : (r : ℕ) → r < c .nodes → 0 < partsOf c allCuts .gates r → withSource r ≡ false → partsOf c allCuts .weight r ≤ limit
     alone-light r p gated free =
         let g = alone-gates r p free in
         let w = alone-weight r p free in
@@ -127,14 +127,14 @@ module _ (s : Stage) (c : Clusters) (root component : ℕ → ℕ) (formed : For
           weight-is = parts .weight-is;
           gates-is = parts .gates-is;
           root-light = λ r p k gated.
-              by (fed r)
-              (λ y. absurd (lt-irrefl 0 (omega (arith, gated, fed-gateless r p y))))
+              by (withSource r)
+              (λ y. absurd (lt-irrefl 0 (omega (arith, gated, source-gateless r p y))))
               (λ z. alone-light r p gated z);
           cut-light = λ j p k cut gated.
               let e : c .lo j - c .lo j ≡ 0 = omega arith in
               let m = mul-zero (c .factor j) in
               let a = ap (λ (x : ℕ). c .factor j * x) e in
-              let l = alone-light j p gated (not-true (fed j) cut) in
+              let l = alone-light j p gated (not-true (withSource j) cut) in
               omega arith;
         }
       where

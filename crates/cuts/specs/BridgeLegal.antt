@@ -23,8 +23,8 @@ abbrev pub Exact : Clusters → Effect → Type 0
 Exact c e = (j : ℕ) → j < c .nodes → c .cuttable j ≡ true → e .points j ≡ χ (e .cut j) (cond (eqb (e .first j) (e .last j)) 1 2)
 
 -- no cut where the component has a source
-abbrev pub Quiet : Stage → Clusters → (ℕ → ℕ) → Effect → Type 0
-Quiet s c component e = (j : ℕ) → j < c .nodes → c .cuttable j ≡ true → sourced s component (component j) ≡ true → e .cut j ≡ false
+abbrev pub SourcesUncut : Stage → Clusters → (ℕ → ℕ) → Effect → Type 0
+SourcesUncut s c component e = (j : ℕ) → j < c .nodes → c .cuttable j ≡ true → sourced s component (component j) ≡ true → e .cut j ≡ false
 
 pub parts-of-good : (c : Clusters) (limit : ℕ) (e : Effect) (p : Parts) → Good c limit e p → PartsOf c e p
 parts-of-good c limit e p good =
@@ -127,8 +127,8 @@ module _
 
   -- ---- a component with a source stays whole
   whole-component :
-      Quiet s c component e → (i : ℕ) → i < s .nodes → sourced s component (component i) ≡ true → lowestNode s (pointsOf c e) i ≡ component i
-  whole-component quiet =
+      SourcesUncut s c component e → (i : ℕ) → i < s .nodes → sourced s component (component i) ≡ true → lowestNode s (pointsOf c e) i ≡ component i
+  whole-component kept =
       up (s .nodes)
       (λ i. sourced s component (component i) ≡ true → lowestNode s (pointsOf c e) i ≡ component i)
       (λ i q whole src.
@@ -138,7 +138,7 @@ module _
       let up = fits .component-up i q present in
       let uncut : cutAt s J i ≡ false =
       by (c .cuttable i)
-      (λ k. sym (cut-is i q k) ∙ quiet i (to-clusters s c root component formed fits i q) k src)
+      (λ k. sym (cut-is i q k) ∙ kept i (to-clusters s c root component formed fits i q) k src)
       (λ k. fixed-uncut s c root component formed fits J points-free i q k) in
       lowestNode-up s J formed i (joins-yes s J i present uncut)
       ∙ (whole (s .parent i) (formed .below i present) (ap (λ (x : ℕ). sourced s component x) (sym up) ∙ src) ∙ sym up))
@@ -147,9 +147,9 @@ module _
       ∙ sym (fits .component-own i q absent)))
 
   -- a gate of a piece without a source is live
-  live : Quiet s c component e → (h i : ℕ) → i < s .nodes → s .gate i ≡ true → lowestNode s (pointsOf c e) i ≡ h → ((k : ℕ) → k < s .nodes → s .source k ≡ true → lowestNode s (pointsOf c e) k ≡ h → ⊥) → liveGate s component i ≡ true
+  live : SourcesUncut s c component e → (h i : ℕ) → i < s .nodes → s .gate i ≡ true → lowestNode s (pointsOf c e) i ≡ h → ((k : ℕ) → k < s .nodes → s .source k ≡ true → lowestNode s (pointsOf c e) k ≡ h → ⊥) → liveGate s component i ≡ true
   unfolding liveGate sourced
-  live quiet h i q gate low none =
+  live kept h i q gate low none =
       and-intro gate
       (ap not
       (not-true-false (sourced s component (component i))
@@ -158,18 +158,18 @@ module _
       let k = r .0 in
       let same = eqb-true (component k) (component i) (and-left (eqb (component k) (component i)) (s .source k) (r .2)) in
       none k (r .1) (and-right (eqb (component k) (component i)) (s .source k) (r .2))
-      (whole-component quiet k (r .1) (ap (λ (x : ℕ). sourced s component x) same ∙ src)
-      ∙ (same ∙ (sym (whole-component quiet i q src) ∙ low))))))
+      (whole-component kept k (r .1) (ap (λ (x : ℕ). sourced s component x) same ∙ src)
+      ∙ (same ∙ (sym (whole-component kept i q src) ∙ low))))))
 
-  light : Quiet s c component e → LightNodes s limit (pointsOf c e)
-  light quiet h hp head i q gate low none =
+  light : SourcesUncut s c component e → LightNodes s limit (pointsOf c e)
+  light kept h hp head i q gate low none =
       let J = pointsOf c e in
       let parts = parts-of-good c limit e p good in
       let apart = head-apart s J formed h head in
       let hp′ = to-clusters s c root component formed fits h hp in
       let is = gates-of-piece s c root component formed fits J points-free e p points-effect parts h hp apart in
       let one = term-≤ (s .nodes) i (λ j. χ (liveGate s component j) (χ (eqb (lowestNode s J j) h) 1)) q in
-      let a = χ-yes (χ (eqb (lowestNode s J i) h) 1) (live quiet h i q gate low none) in
+      let a = χ-yes (χ (eqb (lowestNode s J i) h) 1) (live kept h i q gate low none) in
       let b = χ-yes 1 (eq-eqb (lowestNode s J i) h low) in
       let w = weight-of-piece s c root component formed fits J points-free e p points-effect parts h hp apart in
       by (c .cuttable h)
@@ -245,8 +245,8 @@ module _
   points-size exact =
       sum-ap (s .nodes) (wire-points exact) ∙ sym (sum-nodes s c root component formed fits (λ j. χ (c .cuttable j) (e .points j)))
 
-  pub points-legal : Quiet s c component e → Legal s limit (pointsOf c e)
-  points-legal quiet = nodes→legal s formed limit (pointsOf c e) points-free (light quiet)
+  pub points-legal : SourcesUncut s c component e → Legal s limit (pointsOf c e)
+  points-legal kept = nodes→legal s formed limit (pointsOf c e) points-free (light kept)
 
-  pub legal-of-good : Exact c e → Quiet s c component e → Legal s limit (pointsOf c e) × (size s (pointsOf c e) ≡ pointCount c e)
-  legal-of-good exact quiet = (points-legal quiet, points-size exact)
+  pub legal-of-good : Exact c e → SourcesUncut s c component e → Legal s limit (pointsOf c e) × (size s (pointsOf c e) ≡ pointCount c e)
+  legal-of-good exact kept = (points-legal kept, points-size exact)

@@ -20,12 +20,12 @@ use Rattle.cuts.specs.Fits.{Fits, sourced, liveGate, pointsOf}
 use Rattle.cuts.specs.ChosenModes.{near-below}
 use Rattle.cuts.specs.ChosenGood.{chosen-good}
 use Rattle.cuts.specs.ChosenCount.{chosen-count}
-use Rattle.cuts.specs.ChosenQuiet.{quiet}
+use Rattle.cuts.specs.ChosenSources.{gateless-uncut}
 use Rattle.cuts.specs.LowerCount.{fewest-points}
 use Rattle.cuts.specs.LowerParts.{hopeless}
 use Rattle.cuts.specs.BridgeFits.{to-stage, parent-inside, cuttable-present, sound-of-fits}
 use Rattle.cuts.specs.BridgeGood.{good-of-legal}
-use Rattle.cuts.specs.BridgeLegal.{Exact, Quiet, points-legal, points-size}
+use Rattle.cuts.specs.BridgeLegal.{Exact, SourcesUncut, points-legal, points-size}
 
 -- the same points are legal
 pub legal-same : (s : Stage) (limit : ℕ) (J K : Points) → ((i t : ℕ) → J i t ≡ K i t) → Legal s limit K → Legal s limit J
@@ -97,16 +97,16 @@ module _ (s : Stage) (c : Clusters) (root component : ℕ → ℕ) (formed : For
     good : (p : Parts) × Good c limit (chosenEffect c d u) p
     good = chosen-good c limit d u sound run
 
-    chosen-quiet : Quiet s c component (chosenEffect c d u)
-    chosen-quiet j p k src =
-        quiet c limit d u sound run (λ r. sourced s component (component r))
+    sources-uncut : SourcesUncut s c component (chosenEffect c d u)
+    sources-uncut j p k src =
+        gateless-uncut c limit d u sound run (λ r. sourced s component (component r))
         (λ i q ki. ap (λ (x : ℕ). sourced s component x) (host-component i (to-stage s c root component formed fits i q) ki))
         (λ r q. sourced-gateless r (to-stage s c root component formed fits r q))
         j p src
 
     pub chosen-legal : Legal s limit (pointsOf c (chosenEffect c d u))
     chosen-legal =
-        points-legal s c root component formed fits limit (chosenEffect c d u) (good .0) (good .1) chosen-quiet
+        points-legal s c root component formed fits limit (chosenEffect c d u) (good .0) (good .1) sources-uncut
 
     pub chosen-size : size s (pointsOf c (chosenEffect c d u)) ≡ total c d
     chosen-size =

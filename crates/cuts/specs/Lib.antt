@@ -5,7 +5,7 @@ pub mod Fits
 pub mod ChosenModes
 pub mod ChosenGood
 pub mod ChosenCount
-pub mod ChosenQuiet
+pub mod ChosenSources
 pub mod Bounds
 pub mod Example
 pub mod LowerLargest

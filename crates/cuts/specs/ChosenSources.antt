@@ -53,16 +53,16 @@ module _
       ap (λ t. χ (not t) 1) (free-branch j lt cj ok .0))
       ∙ χ-zero (hangs c r j)))
 
-  quiet-closed : (r : ℕ) → r < c .nodes → q r ≡ true → ungatedCuts c d r ≡ 0 → Closed c limit d r → (d .ungatedOk r ≡ true) × (d .anyOk r ≡ true → anyCuts c d r ≡ 0)
-  quiet-closed r p y z (only-any θ l g f a v w) =
+  gateless-closed : (r : ℕ) → r < c .nodes → q r ≡ true → ungatedCuts c d r ≡ 0 → Closed c limit d r → (d .ungatedOk r ≡ true) × (d .anyOk r ≡ true → anyCuts c d r ≡ 0)
+  gateless-closed r p y z (only-any θ l g f a v w) =
       absurd (⊎-elim (λ g′. let e = gateless r p y in lt-irrefl 0 (omega arith)) (λ fewer. lt-irrefl 0 (omega arith)) g)
-  quiet-closed r p y z (both θ l g e f a v w x) = (v, λ h. e ∙ z)
-  quiet-closed r p y z (only-ungated g o f a v w x) = (v, λ h. absurd (no-both h a))
+  gateless-closed r p y z (both θ l g e f a v w x) = (v, λ h. e ∙ z)
+  gateless-closed r p y z (only-ungated g o f a v w x) = (v, λ h. absurd (no-both h a))
 
-  quiet-ok : (r : ℕ) → r < c .nodes → q r ≡ true → d .ungatedOk r ≡ true
-  quiet-ok =
+  gateless-ok : (r : ℕ) → r < c .nodes → q r ≡ true → d .ungatedOk r ≡ true
+  gateless-ok =
       down (c .nodes) (λ r. q r ≡ true → d .ungatedOk r ≡ true)
-      (λ r p below y. quiet-closed r p y (no-cuts r p y (λ j lt lt′ y′. below j lt lt′ y′)) (run .counted .closed r (omega arith) p) .0)
+      (λ r p below y. gateless-closed r p y (no-cuts r p y (λ j lt lt′ y′. below j lt lt′ y′)) (run .counted .closed r (omega arith) p) .0)
 
   -- the host's any-option cuts no branch of the tree either
   not-cut-any : (j : ℕ) → j < c .nodes → c .cuttable j ≡ true → q j ≡ true → u .anyMode (c .host j) ≡ true → d .cutAny j ≡ false
@@ -72,17 +72,17 @@ module _
       let b = s .host-below j p cj in
       let lt : c .host j < c .nodes = omega arith in
       let yh = along j p cj ∙ y in
-      let ungated = no-cuts (c .host j) lt yh (λ i above lt′ y′. quiet-ok i lt′ y′) in
+      let ungated = no-cuts (c .host j) lt yh (λ i above lt′ y′. gateless-ok i lt′ y′) in
       let all =
-      quiet-closed (c .host j) lt yh ungated (run .counted .closed (c .host j) (omega arith) lt) .1 (any-ok c limit d u s run (c .host j) lt m) in
+      gateless-closed (c .host j) lt yh ungated (run .counted .closed (c .host j) (omega arith) lt) .1 (any-ok c limit d u s run (c .host j) lt m) in
       let one = term-≤ (c .nodes) j (λ i. χ (hangs c (c .host j) i && d .cutAny i) 1) p in
       let is = χ-yes 1 (and-intro (and-intro cj (eq-eqb (c .host j) (c .host j) refl)) t) in
       lt-irrefl 0 (omega arith))
 
-  pub quiet : (j : ℕ) → j < c .nodes → q j ≡ true → chosenEffect c d u .cut j ≡ false
-  quiet j p y =
+  pub gateless-uncut : (j : ℕ) → j < c .nodes → q j ≡ true → chosenEffect c d u .cut j ≡ false
+  gateless-uncut j p y =
       by (c .cuttable j)
-      (λ cj. let whole = free-branch j p cj (quiet-ok j p y) in rw (whole .1) (high cj (whole .0)))
+      (λ cj. let whole = free-branch j p cj (gateless-ok j p y) in rw (whole .1) (high cj (whole .0)))
       (λ nc. rw (le-ltb 0 (d .near j) (omega (arith, run .counted .no-near j (omega arith) p nc))) (run .chosen j p .root-high nc))
     where
       high : c .cuttable j ≡ true → d .hasUngated j ≡ true → u .cutHigh j ≡ false
