@@ -118,7 +118,7 @@ fn repair() {
                 obstacles: random.pick(&[0, 16, 64]),
             };
             let net = net(&mut random, shape);
-            let total: u64 = (1..256).map(|i| net.weight(i)).sum();
+            let total = net.total_weight();
             (net.file(), (total / random.range(2, 60)) as u32)
         })
         .collect();
@@ -137,7 +137,7 @@ fn repair() {
     );
     for (name, net) in worst() {
         let file = net.file();
-        let total: u64 = (1..256).map(|i| net.weight(i)).sum();
+        let total = net.total_weight();
         let repair = |call: Repair| {
             let file = &file;
             let mut out = vec![0; 1530];
@@ -159,7 +159,7 @@ fn stack() {
         obstacles: 16,
     };
     let net = net(&mut Random::new(4), shape);
-    let total: u64 = (1..256).map(|i| net.weight(i)).sum();
+    let total = net.total_weight();
     let limit = (total / 7) as u32;
     let (file, list) = (net.file(), list_of(&free_points(&net, 16)));
     let none = stack::taken(|| {});

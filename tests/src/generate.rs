@@ -145,7 +145,7 @@ pub fn obstacle(random: &mut Random, net: &Net) -> Obstacle {
 /// A limit near the weights of the net, or any.
 pub fn limit(random: &mut Random, net: &Net) -> u32 {
     let count = net.nodes.len();
-    let total: u64 = (1..count).map(|i| net.weight(i)).sum();
+    let total = net.total_weight();
     let near = |random: &mut Random, weight: u64| -> u32 {
         (weight as i64 + random.below(5) as i64 - 2).clamp(0, u32::MAX as i64) as u32
     };
@@ -229,7 +229,7 @@ pub fn large_case(random: &mut Random) -> (Net, u32, u32) {
         };
         let net = net(random, shape);
         let stage = stage(random, &net);
-        let total: u64 = (1..shape.nodes).map(|i| net.weight(i)).sum();
+        let total = net.total_weight();
         let limit = if random.chance(2, 3) {
             (total / random.range(2, 60)) as u32
         } else {

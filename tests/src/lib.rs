@@ -10,6 +10,13 @@ pub mod suite;
 
 pub use library::Answer;
 
+use std::path::{Path, PathBuf};
+
+/// The repository.
+pub fn root() -> PathBuf {
+    Path::new(env!("CARGO_MANIFEST_DIR")).join("..")
+}
+
 impl Answer {
     pub fn done(count: usize) -> Answer {
         Answer {

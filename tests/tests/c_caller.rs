@@ -1,11 +1,8 @@
 //! C and C++ programs built with gcc and g++ and linked with the library.
 
-use std::path::{Path, PathBuf};
+use antenna_tests::root;
+use std::path::Path;
 use std::process::Command;
-
-fn root() -> PathBuf {
-    Path::new(env!("CARGO_MANIFEST_DIR")).join("..")
-}
 
 /// What a program prints, built from its source without a warning.
 fn printed(compiler: &str, options: &[&str], source: &Path) -> String {

@@ -3,14 +3,10 @@
 use antenna_tests::reference::net::{net_of, Net};
 use antenna_tests::reference::report::{legal, Point};
 use antenna_tests::reference::table;
+use antenna_tests::root;
 use antenna_tests::suite::repair::{net_a, net_c, net_j};
 use std::io::Write;
-use std::path::{Path, PathBuf};
 use std::process::{Command, Stdio};
-
-fn root() -> PathBuf {
-    Path::new(env!("CARGO_MANIFEST_DIR")).join("..")
-}
 
 /// What the command wrote to its two outputs, and its status.
 struct Ran {

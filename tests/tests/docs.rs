@@ -1,5 +1,6 @@
 //! What the documents name is there.
 
+use antenna_tests::root;
 use std::path::{Path, PathBuf};
 
 /// Words that look like paths of the repository: in backquotes, or the target of a link. Patterns and what is built are left out.
@@ -47,10 +48,6 @@ fn named_files_are_there() {
         }
     }
     assert!(checked > 20);
-}
-
-fn root() -> PathBuf {
-    Path::new(env!("CARGO_MANIFEST_DIR")).join("..")
 }
 
 /// The cells of the tables of docs/TRUST.md, a row each.

@@ -1,11 +1,8 @@
 //! make install into a folder of its own, and a C program built against it through pkg-config.
 
-use std::path::{Path, PathBuf};
+use antenna_tests::root;
+use std::path::Path;
 use std::process::Command;
-
-fn root() -> PathBuf {
-    Path::new(env!("CARGO_MANIFEST_DIR")).join("..")
-}
 
 fn run(command: &mut Command) -> String {
     let ran = command.output().expect("it runs");

@@ -27,14 +27,14 @@ NoHopeless c limit = (r : ℕ) → r < c .nodes → 0 < c .gates r → c .fixed 
 
 module _ (s : Stage) (c : Clusters) (root component : ℕ → ℕ) (formed : Formed s) (fits : Fits s c root component) where
   -- node j's component has a source
-  abbrev withSource : ℕ → Bool
+  abbrev pub withSource : ℕ → Bool
   withSource j = sourced s component (component j)
 
   -- every cuttable wire of a component without a source is cut at both ends of what may be cut
   abbrev pub allCuts : Effect
   allCuts =
       record {
-        cut = λ j. not (sourced s component (component j));
+        cut = λ j. not (withSource j);
         first = λ j. c .lo j;
         last = λ j. c .hi j;
         points = λ j. cond (eqb (c .lo j) (c .hi j)) 1 2;

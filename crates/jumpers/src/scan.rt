@@ -1,11 +1,11 @@
 // The first passes of repair: cuttable points, clusters, components, and the weight and gates that no cut parts from a cluster.
 use net::layout::MOST_NODES;
 use net::records::is_gate;
+use net::records::is_present;
 use net::records::is_source;
 use net::records::node_count;
 use net::records::node_flags;
 use net::records::wire_factor;
-use net::records::wire_layer;
 use net::records::wire_parent;
 use points::highest_cuttable;
 use points::length_of;
@@ -22,23 +22,12 @@ ghost use Rattle.cuts.specs.Bounds.{allWeight};
 ghost use Rattle.jumpers.specs.Arrays.{clustersOf};
 ghost use Rattle.jumpers.specs.Scan.{Wired, LowestFree, HighestFree, Ends, Inside, made, whole, leader, Leads, Falling, hostOf, sourceIn, gateOf, gathered, lowerWeight, upperWeight};
 
-// Wire i is present at the stage.
-fn is_made(wires: &[u8], stage: u8, i: usize) -> bool
-    requires { ⌜ wireBytes * i ≤ length (now wires) ⌝ }
-    ensures { λ r. ⌜ r ≡ made (now (wires .entry)) stage i ⌝ }
-{
-    if i == 0 {
-        return false;
-    }
-    wire_layer(wires, i) <= stage
-}
-
 // The lowest position of wire i that may be cut, or 0 where there is none.
 fn lowest_of(nodes: &[u8], wires: &[u8], obstacles: &[u8], stage: u8, i: usize) -> u64
     requires { ⌜ Wired (now nodes) (now wires) × (i < nodeCount (now nodes)) ⌝ }
     ensures { λ r. ⌜ LowestFree (stageOf (now (nodes .entry)) (now (wires .entry)) (now (obstacles .entry)) stage) i r ⌝ }
 {
-    if is_made(wires, stage, i) {
+    if is_present(stage, wires, i) {
         return lowest_cuttable(nodes, wires, obstacles, i, 1) as u64;
     }
     0
@@ -49,7 +38,7 @@ fn highest_of(nodes: &[u8], wires: &[u8], obstacles: &[u8], stage: u8, i: usize)
     requires { ⌜ Wired (now nodes) (now wires) × (i < nodeCount (now nodes)) ⌝ }
     ensures { λ r. ⌜ HighestFree (stageOf (now (nodes .entry)) (now (wires .entry)) (now (obstacles .entry)) stage) i r ⌝ }
 {
-    if is_made(wires, stage, i) {
+    if is_present(stage, wires, i) {
         let length = length_of(nodes, wires, i);
         if 0 < length {
             return highest_cuttable(nodes, wires, obstacles, i, length - 1) as u64;
@@ -86,7 +75,7 @@ fn root_of(wires: &[u8], stage: u8, lo: &[u64], root: &[usize], i: usize) -> usi
     requires { ⌜ (0 < i → wireParent (now wires) i < i) ⌝ }
     ensures { λ r. ⌜ r ≡ leader (whole (now (wires .entry)) stage (now (lo .entry))) (wireParent (now (wires .entry))) (now (root .entry)) i ⌝ }
 {
-    if is_made(wires, stage, i) {
+    if is_present(stage, wires, i) {
         if lo[i] == 0 {
             return root[wire_parent(wires, i)];
         }
@@ -141,7 +130,7 @@ fn component_of(wires: &[u8], stage: u8, component: &[usize], i: usize) -> usize
     requires { ⌜ (0 < i → wireParent (now wires) i < i) ⌝ }
     ensures { λ r. ⌜ r ≡ leader (made (now (wires .entry)) stage) (wireParent (now (wires .entry))) (now (component .entry)) i ⌝ }
 {
-    if is_made(wires, stage, i) {
+    if is_present(stage, wires, i) {
         return component[wire_parent(wires, i)];
     }
     i
@@ -219,7 +208,7 @@ fn lower_weight(nodes: &[u8], wires: &[u8], stage: u8, lo: &[u64], i: usize) -> 
     requires { ⌜ (0 < getD (now lo) i 0 → getD (now lo) i 0 ≤ wireLength (now nodes) (now wires) i) ⌝ }
     ensures { λ r. ⌜ r ≡ lowerWeight (now (nodes .entry)) (now (wires .entry)) stage (now (lo .entry)) i ⌝ }
 {
-    if is_made(wires, stage, i) {
+    if is_present(stage, wires, i) {
         let factor = wire_factor(wires, i) as u64;
         if 0 < lo[i] {
             return lo[i] * factor;

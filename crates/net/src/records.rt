@@ -3,8 +3,10 @@ use crate::layout::NODE_BYTES;
 use crate::layout::OBSTACLE_BYTES;
 use crate::layout::WIRE_BYTES;
 ghost use mathlib.Core.Path.{_≡_};
+ghost use mathlib.Core.Bool.{_&&_};
 ghost use Prim.Native.Nat.{_+_, _*_, _<_, _≤_};
 ghost use lib.ListN.{length};
+ghost use lib.Dec.{ltb, leb};
 ghost use Rattle.laws.specs.Bytes.{le16, le32};
 ghost use Rattle.net.specs.Layout.{wireBytes};
 ghost use Rattle.net.specs.Net.{nodeCount, nodeX, nodeY, nodeFlags, isGate, isSource, wireParent, wireLayer, wireFactor, obstacleCount, obstacleX1, obstacleY1, obstacleX2, obstacleY2};
@@ -106,6 +108,17 @@ pub fn wire_factor(wires: &[u8], i: usize) -> u8
     ensures { λ r. ⌜ r ≡ wireFactor (now (wires .entry)) i ⌝ }
 {
     wires[WIRE_BYTES * (i - 1) + 2]
+}
+
+// A stage has wire i: it is a wire, of a layer at most the stage.
+pub fn is_present(stage: u8, wires: &[u8], i: usize) -> bool
+    requires { ⌜ wireBytes * i ≤ length (now wires) ⌝ }
+    ensures { λ r. ⌜ r ≡ (ltb 0 i && leb (wireLayer (now (wires .entry)) i) stage) ⌝ }
+{
+    if i == 0 {
+        return false;
+    }
+    wire_layer(wires, i) <= stage
 }
 
 pub fn obstacle_count(obstacles: &[u8]) -> usize

@@ -18,7 +18,7 @@ use Rattle.pieces.specs.Name.{Inside, cutAt, firstJumper, lastJumper, jo
 use Rattle.pieces.specs.Weight.{wireAdds, nodeWeight}
 use Rattle.pieces.specs.Jumpers.{uncut-none, first-uncut, last-uncut, first-jumper, last-jumper, first-last, below-first, above-last}
 use Rattle.pieces.specs.LegalByNodes.{free-inside, legal→nodes, nodes→legal}
-use Rattle.pieces.specs.Size.{once}
+use Rattle.pieces.specs.Size.{once, either}
 
 -- the lowest and the highest jumper of each wire
 unfoldable pub outer : Stage → Points → Points
@@ -106,10 +106,9 @@ outer-legal s formed limit J legal =
     inside = free-inside s J (legal .free)
 
 -- ---- at most two jumpers on a wire, and none on wire 0, which is not there
-either : (a b c : Bool) → χ (a && (b || c)) 1 ≤ χ b 1 + χ c 1
-either true true c = omega arith
-either true false c = omega arith
-either false b c = omega arith
+kept : (a b c : Bool) → χ (a && (b || c)) 1 ≤ χ b 1 + χ c 1
+kept true b c = either b c
+kept false b c = omega arith
 
 outer-row : (s : Stage) (J : Points) (i : ℕ) → sum (s .len i) (λ t. χ (outer s J i t) 1) ≤ 2
 unfolding outer
@@ -118,7 +117,7 @@ outer-row s J i =
     sum-≤ (s .len i)
     {f = λ t. χ (J i t && (eqb (firstJumper s J i) t || eqb (lastJumper s J i) t)) 1}
     {g = λ t. χ (eqb (firstJumper s J i) t) 1 + χ (eqb (lastJumper s J i) t) 1}
-    (λ t p. either (J i t) (eqb (firstJumper s J i) t) (eqb (lastJumper s J i) t)) in
+    (λ t p. kept (J i t) (eqb (firstJumper s J i) t) (eqb (lastJumper s J i) t)) in
     let b = sum-+ (s .len i) (λ t. χ (eqb (firstJumper s J i) t) 1) (λ t. χ (eqb (lastJumper s J i) t) 1) in
     let c = once (s .len i) (firstJumper s J i) 1 in
     let d = once (s .len i) (lastJumper s J i) 1 in

@@ -30,7 +30,7 @@ one-point s i t = le-trans (sum-≤ (s .nodes) (λ j lt. row j)) (once (s .nodes
     row : (j : ℕ) → sum (s .len j) (λ p. χ (eqb i j && eqb t p) 1) ≤ χ (eqb i j) 1
     row j = by (eqb i j) (λ e. rw e (once (s .len j) t 1)) (λ e. rw e (let z = sum-zero (s .len j) {f = λ p. 0} (λ p lt. refl) in omega arith))
 
-either : (a b : Bool) → χ (a || b) 1 ≤ χ a 1 + χ b 1
+pub either : (a b : Bool) → χ (a || b) 1 ≤ χ a 1 + χ b 1
 either true b = omega arith
 either false b = omega arith
 

@@ -1,6 +1,6 @@
 // The number of records: nodes less present wires, and one for each jumper.
 use crate::check::entry_count;
-use crate::wire::is_present;
+use net::records::is_present;
 use net::records::node_count;
 ghost use mathlib.Core.Path.{_≡_};
 ghost use mathlib.Core.List.{List};

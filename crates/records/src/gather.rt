@@ -1,7 +1,7 @@
 // The pass by rising wire number: it names the pieces with nodes and adds up their weights, flags and layers.
 use crate::check::entry_position;
 use crate::wire::entries_end;
-use crate::wire::is_present;
+use net::records::is_present;
 use net::records::node_count;
 use net::records::node_flags;
 use net::records::wire_factor;

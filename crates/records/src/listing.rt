@@ -2,9 +2,9 @@
 use crate::check::entry_position;
 use crate::record::write_record;
 use crate::wire::entries_end;
-use crate::wire::is_present;
 use net::layout::RECORD_BYTES;
 use net::records::is_gate;
+use net::records::is_present;
 use net::records::is_source;
 use net::records::node_count;
 use net::records::wire_factor;

@@ -1,27 +1,10 @@
-// A wire at a stage: whether the stage has it, and which entries of a jumper list are its own.
+// Which entries of a jumper list are a wire's own.
 use crate::check::entry_count;
 use crate::check::entry_wire;
-use net::records::wire_layer;
 ghost use mathlib.Core.Path.{_≡_};
-ghost use mathlib.Core.Bool.{_&&_};
-ghost use Prim.Native.Nat.{ℕ, _*_, _<_, _≤_};
-ghost use lib.ListN.{length};
-ghost use lib.Dec.{ltb, leb};
-ghost use Rattle.net.specs.Layout.{wireBytes};
-ghost use Rattle.net.specs.Net.{wireLayer};
+ghost use Prim.Native.Nat.{ℕ, _<_, _≤_};
 ghost use Rattle.pieces.specs.Legal.{entryWire};
 ghost use Rattle.pieces.specs.JumperList.{entryCount};
-
-// The stage has wire i.
-pub fn is_present(stage: u8, wires: &[u8], i: usize) -> bool
-    requires { ⌜ wireBytes * i ≤ length (now wires) ⌝ }
-    ensures { λ r. ⌜ r ≡ (ltb 0 i && leb (wireLayer (now (wires .entry)) i) stage) ⌝ }
-{
-    if i == 0 {
-        return false;
-    }
-    wire_layer(wires, i) <= stage
-}
 
 // Where the entries of wire i that begin at entry e end.
 pub fn entries_end(jumpers: &[u8], i: usize, e: usize) -> usize

@@ -64,6 +64,11 @@ impl Net {
         self.length(i) as u64 * self.factor(i)
     }
 
+    /// The weight of all wire.
+    pub fn total_weight(&self) -> u64 {
+        (1..self.nodes.len()).map(|i| self.weight(i)).sum()
+    }
+
     /// Wire i is there at the stage.
     pub fn present(&self, stage: u32, i: usize) -> bool {
         self.wire(i).layer as u32 <= stage

@@ -312,7 +312,7 @@ pub fn worst_nets(repair: Repair) -> f64 {
     let mut slowest = 0.0f64;
     for (_, net) in worst() {
         let file = net.file();
-        let total: u64 = (1..net.nodes.len()).map(|i| net.weight(i)).sum();
+        let total = net.total_weight();
         for limit in [0, 1, 255, 65535, total / 200, total / 7, total / 2, total] {
             let mut out = vec![0; 1530];
             let start = std::time::Instant::now();
@@ -418,7 +418,7 @@ pub fn worst_nets_are_right(repair: Repair) {
                 obstacles,
             };
             let net = net(&mut random, shape);
-            let total: u64 = (1..nodes).map(|i| net.weight(i)).sum();
+            let total = net.total_weight();
             let limit = (total / random.range(2, 40)) as u32;
             let least = table::least(&net, 16, limit);
             compare(repair, &net, 16, limit, least, false);

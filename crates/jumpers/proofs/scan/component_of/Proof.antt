@@ -12,14 +12,14 @@ use Rattle.jumpers.proofs.scan.component_of.Tie as tie
 
 -- in the branch of a wire that is present
 made-here : (c : tie.Then1) → made (now (c .before .before .before .before .args .wires)) (c .before .before .before .before .args .stage) (c .before .before .before .before .args .i) ≡ true
-made-here c = sym (c .before .is-made .ensures) ∙ c .if1 .taken
+made-here c = sym (c .before .is-present .ensures) ∙ c .if1 .taken
 
 positive : (c : tie.Then1) → 0 < c .before .before .before .before .args .i
 positive c =
     let a = c .before .before .before .before .args in made-positive (now (a .wires)) (a .stage) (a .i) (made-here c)
 
-is-made-requires : tie.Need-is-made-requires
-is-made-requires c κs = search needs
+is-present-requires : tie.Need-is-present-requires
+is-present-requires c κs = search needs
 
 wire-parent-requires : tie.Need-wire-parent-requires
 wire-parent-requires c κs = let p = positive c in search needs
@@ -40,13 +40,13 @@ returns : tie.Need-returns
 returns c = rw (made-here (c .before .before), c .before .wire-parent .ensures)
 
 returns-2 : tie.Need-returns-2
-returns-2 c = rw (sym (c .before .is-made .ensures) ∙ c .if1 .left)
+returns-2 c = rw (sym (c .before .is-present .ensures) ∙ c .if1 .left)
 
 pub component-of-spec : {M : Type 1} → statement M
 component-of-spec =
     tie.close
     (tie.spec
-    is-made-requires
+    is-present-requires
     wire-parent-requires
     mul-result
     shared-slice-read-result

@@ -11,11 +11,11 @@ use Rattle.jumpers.specs.ScanEnds.{checked, highest-made, highest-absent
 use Rattle.jumpers.proofs.scan.highest_of.Statement.{statement}
 use Rattle.jumpers.proofs.scan.highest_of.Tie as tie
 
-is-made-requires : tie.Need-is-made-requires
-is-made-requires c κs = let s = c .before .before .before in s .pre .0 .stored (s .args .i) (s .pre .1)
+is-present-requires : tie.Need-is-present-requires
+is-present-requires c κs = let s = c .before .before .before in s .pre .0 .stored (s .args .i) (s .pre .1)
 
 made-here : (c : tie.Then1) → made (now (c .before .before .before .before .before .args .wires)) (c .before .before .before .before .before .args .stage) (c .before .before .before .before .before .args .i) ≡ true
-made-here c = sym (c .before .is-made .ensures) ∙ c .if1 .taken
+made-here c = sym (c .before .is-present .ensures) ∙ c .if1 .taken
 
 checked-here : (c : tie.Then1) → Checked (now (c .before .before .before .before .before .args .nodes)) (now (c .before .before .before .before .before .args .wires)) (c .before .before .before .before .before .args .i)
 checked-here c =
@@ -53,13 +53,13 @@ returns-3 : tie.Need-returns-3
 returns-3 c =
     let s = c .before .before .before .before .before in
     let a = s .args in
-    highest-absent (now (a .nodes)) (now (a .wires)) (now (a .obstacles)) (a .stage) (a .i) (s .pre .1) (sym (c .before .is-made .ensures) ∙ c .if1 .left)
+    highest-absent (now (a .nodes)) (now (a .wires)) (now (a .obstacles)) (a .stage) (a .i) (s .pre .1) (sym (c .before .is-present .ensures) ∙ c .if1 .left)
 
 pub highest-of-spec : {M : Type 1} → statement M
 highest-of-spec =
     tie.close
     (tie.spec
-    is-made-requires
+    is-present-requires
     length-of-requires
     sub-highest-cuttable
     highest-cuttable-requires

@@ -20,7 +20,7 @@ abbrev start : tie.Then1 → tie.Start
 start c = c .before .before .before .before .before
 
 made-here : (c : tie.Then1) → made (now (start c .args .wires)) (start c .args .stage) (start c .args .i) ≡ true
-made-here c = sym (c .before .is-made .ensures) ∙ c .if1 .taken
+made-here c = sym (c .before .is-present .ensures) ∙ c .if1 .taken
 
 positive : (c : tie.Then1) → 0 < start c .args .i
 positive c = let a = start c .args in made-positive (now (a .wires)) (a .stage) (a .i) (made-here c)
@@ -30,8 +30,8 @@ length-here c =
     let s = start c in
     length-≤ (s .pre .0 .0) (λ j. omega (arith, c .before .before .before .before .shared-slice-known .given j)) (s .args .i) (positive c) (s .pre .0 .1)
 
-is-made-requires : tie.Need-is-made-requires
-is-made-requires c κs = let s = c .before .before .before in s .pre .0 .0 .stored (s .args .i) (s .pre .0 .1)
+is-present-requires : tie.Need-is-present-requires
+is-present-requires c κs = let s = c .before .before .before in s .pre .0 .0 .stored (s .args .i) (s .pre .0 .1)
 
 wire-factor-requires : tie.Need-wire-factor-requires
 wire-factor-requires c κs = let s = start c in (positive c, s .pre .0 .0 .stored (s .args .i) (s .pre .0 .1))
@@ -86,13 +86,13 @@ returns-2 c =
     rw (made-here t, le-ltb 0 (getD (now (a .lo)) (a .i) 0) (c .before .if2 .left), c .before .before .before .wire-factor .ensures, c .length-of .ensures .0)
 
 returns-3 : tie.Need-returns-3
-returns-3 c = rw (sym (c .before .is-made .ensures) ∙ c .if1 .left)
+returns-3 c = rw (sym (c .before .is-present .ensures) ∙ c .if1 .left)
 
 pub lower-weight-spec : {M : Type 1} → statement M
 lower-weight-spec =
     tie.close
     (tie.spec
-    is-made-requires
+    is-present-requires
     wire-factor-requires
     cast-factor
     mul-if2

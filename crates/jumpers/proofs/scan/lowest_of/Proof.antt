@@ -10,11 +10,11 @@ use Rattle.jumpers.specs.ScanEnds.{checked, lowest-made, lowest-absent}
 use Rattle.jumpers.proofs.scan.lowest_of.Statement.{statement}
 use Rattle.jumpers.proofs.scan.lowest_of.Tie as tie
 
-is-made-requires : tie.Need-is-made-requires
-is-made-requires c κs = let s = c .before .before .before in s .pre .0 .stored (s .args .i) (s .pre .1)
+is-present-requires : tie.Need-is-present-requires
+is-present-requires c κs = let s = c .before .before .before in s .pre .0 .stored (s .args .i) (s .pre .1)
 
 made-here : (c : tie.Then1) → made (now (c .before .before .before .before .before .args .wires)) (c .before .before .before .before .before .args .stage) (c .before .before .before .before .before .args .i) ≡ true
-made-here c = sym (c .before .is-made .ensures) ∙ c .if1 .taken
+made-here c = sym (c .before .is-present .ensures) ∙ c .if1 .taken
 
 lowest-cuttable-requires : tie.Need-lowest-cuttable-requires
 lowest-cuttable-requires c κs =
@@ -35,8 +35,8 @@ returns-2 : tie.Need-returns-2
 returns-2 c =
     let s = c .before .before .before .before .before in
     let a = s .args in
-    lowest-absent (now (a .nodes)) (now (a .wires)) (now (a .obstacles)) (a .stage) (a .i) (s .pre .1) (sym (c .before .is-made .ensures) ∙ c .if1 .left)
+    lowest-absent (now (a .nodes)) (now (a .wires)) (now (a .obstacles)) (a .stage) (a .i) (s .pre .1) (sym (c .before .is-present .ensures) ∙ c .if1 .left)
 
 pub lowest-of-spec : {M : Type 1} → statement M
 lowest-of-spec =
-    tie.close (tie.spec is-made-requires lowest-cuttable-requires cast-result returns returns-2)
+    tie.close (tie.spec is-present-requires lowest-cuttable-requires cast-result returns returns-2)

@@ -14,15 +14,15 @@ use Rattle.jumpers.proofs.scan.root_of.Tie as tie
 
 -- in the branch of a wire that is present
 made-here : (c : tie.Then1) → made (now (c .before .before .before .before .before .args .wires)) (c .before .before .before .before .before .args .stage) (c .before .before .before .before .before .args .i) ≡ true
-made-here c = sym (c .before .is-made .ensures) ∙ c .if1 .taken
+made-here c = sym (c .before .is-present .ensures) ∙ c .if1 .taken
 
 positive : (c : tie.Then1) → 0 < c .before .before .before .before .before .args .i
 positive c =
     let a = c .before .before .before .before .before .args in
     made-positive (now (a .wires)) (a .stage) (a .i) (made-here c)
 
-is-made-requires : tie.Need-is-made-requires
-is-made-requires c κs = search needs
+is-present-requires : tie.Need-is-present-requires
+is-present-requires c κs = search needs
 
 mul-if2 : tie.Need-mul-if2
 mul-if2 c = search needs
@@ -53,13 +53,13 @@ returns-2 c =
     rw (made-here (c .before .before), lt-ltb 0 (getD (now (a .lo)) (a .i) 0) (omega arith))
 
 returns-3 : tie.Need-returns-3
-returns-3 c = rw (sym (c .before .is-made .ensures) ∙ c .if1 .left)
+returns-3 c = rw (sym (c .before .is-present .ensures) ∙ c .if1 .left)
 
 pub root-of-spec : {M : Type 1} → statement M
 root-of-spec =
     tie.close
     (tie.spec
-    is-made-requires
+    is-present-requires
     mul-if2
     shared-slice-read-if2
     wire-parent-requires

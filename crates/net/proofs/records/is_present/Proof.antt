@@ -1,10 +1,10 @@
--- `records::wire::is_present` meets its contract.
+-- `net::records::is_present` meets its contract.
 -- Assumes nothing.
 use native.Mathlib.Omega.{arith}
 use borrow.Author.Tests.{lt-ltb}
 use borrow.Author.Needs.{needs}
-use Rattle.records.proofs.wire.is_present.Statement.{statement}
-use Rattle.records.proofs.wire.is_present.Tie as tie
+use Rattle.net.proofs.records.is_present.Statement.{statement}
+use Rattle.net.proofs.records.is_present.Tie as tie
 
 returns : tie.Need-returns
 returns c = rw (c .if1 .taken)
