@@ -21,7 +21,7 @@ use Rattle.net.specs.Calls.{call-right}
 use Rattle.pieces.specs.Legal.{size, listed, Smallest, NoneLegal}
 use Rattle.pieces.specs.Size.{listed-size}
 use Rattle.pieces.specs.Outer.{smallest-few}
-use Rattle.jumpers.specs.Promise.{Judged, no-legal-set, too-short, done, Repaired}
+use Rattle.repairs.specs.Promise.{Judged, no-legal-set, too-short, done, Repaired}
 
 -- the count of a smallest list is the number of its points
 pub smallest-size : {s : Stage} {limit : ℕ} {list : List ℕ} {n : ℕ} → Smallest s limit list n → size s (listed list n) ≡ n

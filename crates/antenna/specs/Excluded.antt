@@ -14,7 +14,7 @@ use Rattle.pieces.specs.Legal.{Smallest, NoneLegal, listed}
 use Rattle.pieces.specs.Size.{listed-size}
 use Rattle.small_nets.specs.Cases.{Least, nodesA, wiresA, nodesJ, wiresJ, nodesC, wiresC, bar}
 use Rattle.small_nets.specs.Shown.{small-nets}
-use Rattle.jumpers.specs.Promise.{Judged, no-legal-set, too-short, done, Repaired}
+use Rattle.repairs.specs.Promise.{Judged, no-legal-set, too-short, done, Repaired}
 
 -- a smallest list has as many entries as the least number of points
 least-count : {s : Stage} {limit n m : ℕ} {list : List ℕ} → Least s limit n → Smallest s limit list m → m ≡ n

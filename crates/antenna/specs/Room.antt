@@ -14,7 +14,7 @@ use Rattle.net.specs.Refusal.{answer, lentRefusal}
 use Rattle.net.specs.Call.{netAt, callRefusal}
 use Rattle.net.specs.First.{unmet-number, unmet-r}
 use Rattle.pieces.specs.JumperList.{listRefusal}
-use Rattle.records.specs.Promise.{pieceCount, piecesRefusal, reportRefusal, reportAnswer}
+use Rattle.reports.specs.Promise.{pieceCount, piecesRefusal, reportRefusal, reportAnswer}
 
 pub record-room :
     (stage : ℕ) (file list : List ℕ) (lent : ℕ) (r : Answer) → r ≡ reportAnswer stage file list lent → r .number ≡ 0 → recordBytes * r .count ≤ lent

@@ -6,9 +6,9 @@ use net::sections;
 use repairs::judge;
 ghost use mathlib.Core.Path.{_≡_};
 ghost use lib.ListN.{length};
-ghost use Rattle.jumpers.specs.Promise.{Repaired};
+ghost use Rattle.repairs.specs.Promise.{Repaired};
 ghost use Rattle.net.specs.Refusal.{readAnswer, writeAnswer, writeBuffer};
-ghost use Rattle.records.specs.Promise.{reportAnswer, reportBuffer};
+ghost use Rattle.reports.specs.Promise.{reportAnswer, reportBuffer};
 
 // Reads a net file alone: 2 to 11, or the number of nodes.
 #[no_mangle]
@@ -42,7 +42,7 @@ pub extern "C" fn antenna_report(
 ) -> Answer
     ensures { λ r. ⌜ (r ≡ reportAnswer stage (now (file .entry)) (now (jumpers .entry)) (length (now (out .entry)))) × (now (out .exit) ≡ reportBuffer stage limit (now (file .entry)) (now (jumpers .entry)) (now (out .entry))) ⌝ }
 {
-    records::report::report(stage, limit, file, jumpers, out)
+    reports::report::report(stage, limit, file, jumpers, out)
 }
 
 // Finds a smallest legal jumper set of a net at a stage under a limit: 1, 2 to 11, 15, 16, or the number of jumpers written.

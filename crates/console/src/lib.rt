@@ -1,9 +1,9 @@
 // What the two programs share: the parts of their input, and the lines they print.
 use libc::STDOUT_FILENO;
+use net::fields::u16_at;
+use net::fields::u32_at;
 use net::layout::ENTRY_BYTES;
 use net::layout::RECORD_BYTES;
-use net::records::u16_at;
-use net::records::u32_at;
 ghost use mathlib.Core.Path.{_≡_};
 ghost use Prim.Native.Nat.{_+_, _≤_};
 ghost use lib.ListN.{length};

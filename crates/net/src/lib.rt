@@ -2,9 +2,9 @@
 // Definitions: specs/.
 pub mod answers;
 pub mod call;
+pub mod fields;
 pub mod layout;
 pub mod read;
-pub mod records;
 pub mod sections;
 pub mod write;
 

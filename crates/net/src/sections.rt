@@ -2,6 +2,8 @@
 use crate::Refusal;
 use crate::answers::none;
 use crate::answers::refused;
+use crate::fields::u16_at;
+use crate::fields::u32_at;
 use crate::layout::HEAD_BYTES;
 use crate::layout::LENGTH_AT;
 use crate::layout::PAIR_BYTES;
@@ -10,8 +12,6 @@ use crate::layout::PAIR_COUNT_AT;
 use crate::layout::PAIRS_AT;
 use crate::layout::VERSION;
 use crate::layout::VERSION_AT;
-use crate::records::u16_at;
-use crate::records::u32_at;
 ghost use mathlib.Core.Path.{_≡_};
 ghost use mathlib.Core.Bool.{false};
 ghost use Prim.Native.Nat.{_+_, _<_, _≤_};

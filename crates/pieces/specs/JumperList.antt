@@ -9,11 +9,16 @@ use Rattle.net.specs.declared.Refusal.{Refusal}
 use Rattle.net.specs.Layout.{entryBytes}
 use Rattle.net.specs.Stage.{Stage}
 use Rattle.net.specs.Refusal.{refusedIf, orElse, firstOf}
-use Rattle.pieces.specs.Legal.{entryWire, entryPosition}
+use Rattle.pieces.specs.Piece.{Points}
+use Rattle.pieces.specs.Legal.{entryWire, entryPosition, listed}
 
 -- the number of entries
 abbrev pub entryCount : List ℕ → ℕ
 entryCount list = length list / entryBytes
+
+-- the set of a whole list
+abbrev pub setOf : List ℕ → Points
+setOf list = listed list (entryCount list)
 
 -- entry e stands after entry d: by wire, then position
 unfoldable pub after : List ℕ → ℕ → ℕ → Bool

@@ -1,12 +1,12 @@
 // The points of a wire, by signed coordinate differences, and the obstacles that hold them.
-use net::records::node_x;
-use net::records::node_y;
-use net::records::obstacle_count;
-use net::records::obstacle_x1;
-use net::records::obstacle_x2;
-use net::records::obstacle_y1;
-use net::records::obstacle_y2;
-use net::records::wire_parent;
+use net::fields::node_x;
+use net::fields::node_y;
+use net::fields::obstacle_count;
+use net::fields::obstacle_x1;
+use net::fields::obstacle_x2;
+use net::fields::obstacle_y1;
+use net::fields::obstacle_y2;
+use net::fields::wire_parent;
 ghost use mathlib.Core.Path.{_≡_};
 ghost use mathlib.Core.Bool.{true, false};
 ghost use mathlib.Core.Logic.{_⊎_};

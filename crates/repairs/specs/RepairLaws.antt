@@ -26,16 +26,16 @@ use Rattle.cuts.specs.Bounds.{allWeight, cluster-bounded}
 use Rattle.cuts.specs.OtherFree.{sound-free, counted-free}
 use Rattle.cuts.specs.BridgeFits.{sound-of-fits}
 use Rattle.cuts.specs.BridgeRun.{hopeless-none}
-use Rattle.jumpers.specs.Arrays.{clustersOf, downOf, upOf}
-use Rattle.jumpers.specs.Climb.{openAt}
-use Rattle.jumpers.specs.Count.{workClusters, Ready, CountedAll, Hopeless, rootSum}
-use Rattle.jumpers.specs.Choose.{Chooses, Choosable}
-use Rattle.jumpers.specs.ChooseLaws.{chosen-of}
-use Rattle.jumpers.specs.Promise.{Judged, too-short, done}
-use Rattle.jumpers.specs.Listing.{listOf, countOf}
-use Rattle.jumpers.specs.ListingWriting.{length-listOf}
-use Rattle.jumpers.specs.ListingPoints.{Listable}
-use Rattle.jumpers.specs.ListingSmallest.{listable, smallest-list, count-is-total}
+use Rattle.clusters.specs.Arrays.{clustersOf, downOf, upOf}
+use Rattle.counting.specs.Climb.{openAt}
+use Rattle.counting.specs.Count.{workClusters, Ready, CountedAll, Hopeless, rootSum}
+use Rattle.choice.specs.Choose.{Chooses, Choosable}
+use Rattle.choice.specs.ChooseLaws.{chosen-of}
+use Rattle.repairs.specs.Promise.{Judged, too-short, done}
+use Rattle.listing.specs.Listing.{listOf, countOf}
+use Rattle.listing.specs.ListingWriting.{length-listOf}
+use Rattle.listing.specs.ListingPoints.{Listable}
+use Rattle.listing.specs.ListingSmallest.{listable, smallest-list, count-is-total}
 
 -- what both passes leave for the writer of the list: its entries are those of a smallest legal set
 pub record Planned (s : Stage) (limit : ℕ) (hi near : List ℕ) (high : List Bool) (points : ℕ) : Type 0 where

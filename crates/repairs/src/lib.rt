@@ -1,14 +1,14 @@
 // Repair on an accepted net: the passes in order over work arrays, then the list.
-use jumpers::choose::choose;
-use jumpers::count::Count;
-use jumpers::count::count_pass;
-use jumpers::list::write_list;
-use jumpers::scan::scan;
+use choice::choose;
+use clusters::scan::scan;
+use counting::count::Count;
+use counting::count::count_pass;
+use listing::write_list;
 use net::Answer;
 use net::answers;
+use net::fields::node_count;
 use net::layout::ENTRY_BYTES;
 use net::layout::MOST_NODES;
-use net::records::node_count;
 ghost use mathlib.Core.Path.{_≡_};
 ghost use mathlib.Core.Bool.{false};
 ghost use Prim.Native.Nat.{ℕ, _≤_};
@@ -16,7 +16,7 @@ ghost use lib.ListN.{length, getD};
 ghost use Rattle.net.specs.Layout.{mostNodes};
 ghost use Rattle.net.specs.Stage.{stageOf};
 ghost use Rattle.net.specs.Refusal.{none, netRefusal};
-ghost use Rattle.jumpers.specs.Promise.{Judged};
+ghost use Rattle.repairs.specs.Promise.{Judged};
 ghost use Rattle.repairs.specs.RepairLaws.{Plans};
 
 // The passes in order over lent work arrays: how many points are needed, with hi, near and high for the list of them; or that no set is legal.

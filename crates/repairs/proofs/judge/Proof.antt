@@ -12,8 +12,8 @@ use Rattle.laws.specs.Lists.{over}
 use Rattle.net.specs.Stage.{stageOf}
 use Rattle.net.specs.Refusal.{answer}
 use Rattle.net.specs.Accepted.{NetRight, net-right}
-use Rattle.jumpers.specs.Promise.{no-legal-set}
-use Rattle.jumpers.specs.Listing.{listOf, countOf}
+use Rattle.repairs.specs.Promise.{no-legal-set}
+use Rattle.listing.specs.Listing.{listOf, countOf}
 use Rattle.repairs.specs.RepairLaws.{Planned, count-few, judged-short, judged-done}
 use borrow.Author.Needs.{needs}
 use Rattle.repairs.proofs.judge.Statement.{statement}

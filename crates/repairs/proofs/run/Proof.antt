@@ -11,9 +11,9 @@ use Rattle.laws.specs.Sums.{no-both}
 use Rattle.net.specs.Net.{nodeCount}
 use Rattle.net.specs.Layout.{mostNodes}
 use Rattle.net.specs.Accepted.{NetRight, net-right}
-use Rattle.jumpers.specs.Count.{Ready, CountedAll, Hopeless}
-use Rattle.jumpers.specs.Choose.{Choosable}
-use Rattle.jumpers.specs.ScanFits.{wired-of}
+use Rattle.counting.specs.Count.{Ready, CountedAll, Hopeless}
+use Rattle.choice.specs.Choose.{Choosable}
+use Rattle.clusters.specs.ScanFits.{wired-of}
 use Rattle.repairs.specs.RepairLaws.{ready-of, none-of, choosable-of, planned}
 use Rattle.repairs.proofs.run.Statement.{statement}
 use Rattle.repairs.proofs.run.Tie as tie

@@ -1,0 +1,11 @@
+pub mod Close
+pub mod CloseSums
+pub mod CloseCutting
+pub mod CloseEndings
+pub mod CountFrame
+pub mod Climb
+pub mod ClimbLaws
+pub mod Count
+pub mod CountStep
+pub mod CountArrays
+pub mod CountStored

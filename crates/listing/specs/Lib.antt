@@ -1,0 +1,5 @@
+pub mod Listing
+pub mod ListingOrder
+pub mod ListingPoints
+pub mod ListingWriting
+pub mod ListingSmallest

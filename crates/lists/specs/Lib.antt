@@ -1,0 +1,3 @@
+pub mod EntriesChecked
+pub mod Entries
+pub mod EntriesOfWire

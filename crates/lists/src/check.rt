@@ -1,0 +1,127 @@
+// The jumper list: its entries read in place, and the first of 12 to 14 that it meets at a stage.
+use net::Refusal;
+use net::answers::none;
+use net::answers::refused;
+use net::fields::node_count;
+use net::fields::u16_at;
+use net::fields::wire_layer;
+use net::layout::ENTRY_BYTES;
+use points::is_barred;
+use points::length_of;
+ghost use mathlib.Core.Path.{_≡_};
+ghost use mathlib.Core.Bool.{_||_};
+ghost use Prim.Native.Nat.{_-_, _<_};
+ghost use lib.Dec.{eqb};
+ghost use Rattle.net.specs.Refusal.{none, netRefusal};
+ghost use Rattle.net.specs.Stage.{stageOf};
+ghost use Rattle.pieces.specs.Legal.{entryWire, entryPosition};
+ghost use Rattle.pieces.specs.JumperList.{entryCount, after, entryRefusal, listRefusal};
+ghost use Rattle.lists.specs.EntriesChecked.{WiresChecked, liesInside};
+
+pub fn entry_count(list: &[u8]) -> usize
+    ensures { λ r. ⌜ r ≡ entryCount (now (list .entry)) ⌝ }
+{
+    list.len() / ENTRY_BYTES
+}
+
+pub fn entry_wire(list: &[u8], e: usize) -> usize
+    requires { ⌜ e < entryCount (now list) ⌝ }
+    ensures { λ r. ⌜ r ≡ entryWire (now (list .entry)) e ⌝ }
+{
+    list[ENTRY_BYTES * e] as usize
+}
+
+pub fn entry_position(list: &[u8], e: usize) -> u32
+    requires { ⌜ e < entryCount (now list) ⌝ }
+    ensures { λ r. ⌜ r ≡ entryPosition (now (list .entry)) e ⌝ }
+{
+    u16_at(list, ENTRY_BYTES * e + 1) as u32
+}
+
+// Entry e stands after the one before, if there is one.
+fn is_after(list: &[u8], e: usize) -> bool
+    requires { ⌜ e < entryCount (now list) ⌝ }
+    ensures { λ r. ⌜ r ≡ (eqb e 0 || after (now (list .entry)) (e - 1) e) ⌝ }
+{
+    if e == 0 {
+        return true;
+    }
+    let before = entry_wire(list, e - 1);
+    let wire = entry_wire(list, e);
+    if before < wire {
+        return true;
+    }
+    if wire < before {
+        return false;
+    }
+    entry_position(list, e - 1) < entry_position(list, e)
+}
+
+// There is a wire i, the stage has it, and position t lies inside it.
+fn lies_inside(stage: u8, nodes: &[u8], wires: &[u8], i: usize, t: u32) -> bool
+    requires { ⌜ WiresChecked (now nodes) (now wires) ⌝ }
+    ensures { λ r. ⌜ r ≡ liesInside (now (nodes .entry)) (now (wires .entry)) stage i t ⌝ }
+{
+    if i == 0 {
+        return false;
+    }
+    if node_count(nodes) <= i {
+        return false;
+    }
+    if stage < wire_layer(wires, i) {
+        return false;
+    }
+    if t == 0 {
+        return false;
+    }
+    t < length_of(nodes, wires, i)
+}
+
+// Entry e: 12, 13, 14.
+fn entry_refusal(
+    stage: u8,
+    nodes: &[u8],
+    wires: &[u8],
+    obstacles: &[u8],
+    list: &[u8],
+    e: usize,
+) -> Refusal
+    requires { ⌜ netRefusal (now nodes) (now wires) (now obstacles) ≡ none ⌝ }
+    requires { ⌜ e < entryCount (now list) ⌝ }
+    ensures { λ r. ⌜ r ≡ entryRefusal (stageOf (now (nodes .entry)) (now (wires .entry)) (now (obstacles .entry)) stage) (now (list .entry)) e ⌝ }
+{
+    let i = entry_wire(list, e);
+    let t = entry_position(list, e);
+    let after = is_after(list, e);
+    let inside = lies_inside(stage, nodes, wires, i, t);
+    if !after {
+        return refused(12, e as u64);
+    }
+    if !inside {
+        return refused(13, e as u64);
+    }
+    if is_barred(nodes, wires, obstacles, i, t) {
+        return refused(14, e as u64);
+    }
+    none()
+}
+
+// 12 to 14 on a list, for an accepted net at a stage.
+pub fn list_refusal(stage: u8, nodes: &[u8], wires: &[u8], obstacles: &[u8], list: &[u8]) -> Refusal
+    requires { ⌜ netRefusal (now nodes) (now wires) (now obstacles) ≡ none ⌝ }
+    ensures { λ r. ⌜ r ≡ listRefusal (stageOf (now (nodes .entry)) (now (wires .entry)) (now (obstacles .entry)) stage) (now (list .entry)) ⌝ }
+{
+    if list.len() % ENTRY_BYTES != 0 {
+        return refused(12, 0);
+    }
+    let count = entry_count(list);
+    let mut e = 0;
+    while e < count {
+        let r = entry_refusal(stage, nodes, wires, obstacles, list, e);
+        if r.number != 0 {
+            return r;
+        }
+        e += 1;
+    }
+    none()
+}

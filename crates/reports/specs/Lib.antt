@@ -1,0 +1,13 @@
+pub mod Gathered
+pub mod NodeRecords
+pub mod Gathering
+pub mod Judged
+pub mod Judging
+pub mod Reached
+pub mod Listing
+pub mod Counting
+pub mod WeightFits
+pub mod Reporting
+pub mod StretchRecords
+pub mod Record
+pub mod Promise

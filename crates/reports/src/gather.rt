@@ -1,0 +1,121 @@
+// The pass by rising wire number: it names the pieces with nodes and adds up their weights, flags and layers.
+use lists::check::entry_position;
+use lists::wire::entries_end;
+use net::fields::is_present;
+use net::fields::node_count;
+use net::fields::node_flags;
+use net::fields::wire_factor;
+use net::fields::wire_layer;
+use net::fields::wire_parent;
+use points::length_of;
+ghost use Prim.Native.Nat.{_+_, _*_, _^_, _<_, _≤_};
+ghost use lib.ListN.{length, getD};
+ghost use Rattle.net.specs.Layout.{mostLayers};
+ghost use Rattle.net.specs.Net.{nodeCount};
+ghost use Rattle.pieces.specs.JumperList.{entryCount};
+ghost use Rattle.lists.specs.EntriesOfWire.{OfWire};
+ghost use Rattle.reports.specs.Gathering.{Named, Added};
+ghost use Rattle.reports.specs.Judged.{Accepted, GatheredBelow, Roomy, AtMost};
+
+// Node i is in the piece whose lowest node is h: its flags are joined to that piece's.
+fn name_node(lowest: &mut [usize], flags: &mut [u8], i: usize, h: usize, of_node: u8)
+    requires { ⌜ (i < length (now lowest)) × (h < length (now flags)) ⌝ }
+    ensures { λ r. ⌜ Named (now (lowest .entry)) (now (flags .entry)) (now (lowest .exit)) (now (flags .exit)) i h «of_node» ⌝ }
+{
+    lowest[i] = h;
+    flags[h] = flags[h] | of_node;
+}
+
+// Some steps of a wire are in the piece whose lowest node is h.
+fn add_steps(weight: &mut [u64], layers: &mut [u16], h: usize, steps: u32, factor: u8, layer: u8)
+    requires { ⌜ (h < length (now weight)) × (h < length (now layers)) × (1 ≤ layer) × (layer ≤ mostLayers) ⌝ }
+    requires { ⌜ getD (now weight) h 0 + steps * factor < 2 ^ 64 ⌝ }
+    ensures { λ r. ⌜ Added (now (weight .entry)) (now (layers .entry)) (now (weight .exit)) (now (layers .exit)) h steps factor layer ⌝ }
+{
+    weight[h] = weight[h] + (steps as u64) * (factor as u64);
+    if 0 < steps {
+        layers[h] = layers[h] | 1u16 << (layer - 1);
+    }
+}
+
+// Node i with its wire, whose entries in the list are those from e to end - 1.
+fn step(
+    stage: u8,
+    nodes: &[u8],
+    wires: &[u8],
+    jumpers: &[u8],
+    i: usize,
+    e: usize,
+    end: usize,
+    lowest: &mut [usize],
+    weight: &mut [u64],
+    flags: &mut [u8],
+    layers: &mut [u16],
+)
+    requires { ⌜ Accepted (now nodes) (now wires) stage (now jumpers) ⌝ }
+    requires { ⌜ (i < nodeCount (now nodes)) × OfWire (now jumpers) (entryCount (now jumpers)) i e end ⌝ }
+    requires { ⌜ Roomy (now nodes) (now lowest) (now weight) (now flags) (now layers) × AtMost (i * 33554432) (now weight) ⌝ }
+    requires { ⌜ GatheredBelow (now nodes) (now wires) stage (now jumpers) i (now lowest) (now weight) (now flags) (now layers) ⌝ }
+    ensures { λ r. ⌜ GatheredBelow (now (nodes .entry)) (now (wires .entry)) stage (now (jumpers .entry)) (i + 1) (now (lowest .exit)) (now (weight .exit)) (now (flags .exit)) (now (layers .exit))
+        × AtMost ((i + 1) * 33554432) (now (weight .exit)) × (end ≤ e + 65536) ⌝ }
+{
+    let of_node = node_flags(nodes, i);
+    if !is_present(stage, wires, i) {
+        name_node(lowest, flags, i, i, of_node);
+        return;
+    }
+    let above = lowest[wire_parent(wires, i)];
+    let len = length_of(nodes, wires, i);
+    let factor = wire_factor(wires, i);
+    let layer = wire_layer(wires, i);
+    if e == end {
+        name_node(lowest, flags, i, above, of_node);
+        add_steps(weight, layers, above, len, factor, layer);
+        return;
+    }
+    name_node(lowest, flags, i, i, of_node);
+    let first = entry_position(jumpers, e);
+    let last = entry_position(jumpers, end - 1);
+    add_steps(weight, layers, i, first, factor, layer);
+    add_steps(weight, layers, above, len - last, factor, layer);
+}
+
+// All nodes and wires by rising number.
+pub fn gather(
+    stage: u8,
+    nodes: &[u8],
+    wires: &[u8],
+    jumpers: &[u8],
+    lowest: &mut [usize],
+    weight: &mut [u64],
+    flags: &mut [u8],
+    layers: &mut [u16],
+)
+    requires { ⌜ Accepted (now nodes) (now wires) stage (now jumpers) ⌝ }
+    requires { ⌜ Roomy (now nodes) (now lowest) (now weight) (now flags) (now layers) ⌝ }
+    requires { ⌜ AtMost 0 (now weight) × AtMost 0 (now flags) × AtMost 0 (now layers) ⌝ }
+    ensures { λ r. ⌜ GatheredBelow (now (nodes .entry)) (now (wires .entry)) stage (now (jumpers .entry)) (nodeCount (now (nodes .entry))) (now (lowest .exit)) (now (weight .exit)) (now (flags .exit)) (now (layers .exit))
+        × (entryCount (now (jumpers .entry)) ≤ nodeCount (now (nodes .entry)) * 65536) ⌝ }
+{
+    let count = node_count(nodes);
+    let mut e = 0;
+    let mut i = 0;
+    while i < count {
+        let end = entries_end(jumpers, i, e);
+        step(
+            stage,
+            nodes,
+            wires,
+            jumpers,
+            i,
+            e,
+            end,
+            lowest,
+            weight,
+            flags,
+            layers,
+        );
+        e = end;
+        i += 1;
+    }
+}
