@@ -1,4 +1,5 @@
 pub mod Layout
+pub mod Limits
 pub mod Net
 pub mod Stage
 pub mod Refusal
