@@ -1,19 +1,27 @@
 -- What repair's promise leaves of an answer where the least number of points is known, and so the answers that it excludes on document 01's small nets.
 -- Assumes nothing.
-use Prim.Native.Nat.{ℕ, _*_, _≤_, _<_}
-use mathlib.Core.Path.{_≡_, refl, _∙_, ap}
-use mathlib.Core.List.{List, []}
-use lib.ListN.{length}
+use Prim.Native.Nat.{ℕ, zero, suc, _*_, _≤_, _<_}
+use mathlib.Core.Path.{_≡_, refl, _∙_, ap, subst}
+use mathlib.Core.Bool.{true, _&&_, _||_}
+use mathlib.Core.Logic.{_⊎_, inl, inr, ⊎-elim}
+use mathlib.Core.List.{List, [], _∷_}
+use lib.Dec.{eqb}
+use lib.ListN.{length, getD, drop}
+use lib.Seq.{ext-getD}
 use native.Mathlib.Omega.{arith}
+use borrow.Author.Tests.{eqb-true}
+use Rattle.laws.specs.Sums.{and-left, and-right, or-cases}
 use Rattle.net.specs.declared.Answer.{Answer}
 use Rattle.net.specs.Layout.{entryBytes}
 use Rattle.net.specs.Stage.{Stage}
 use Rattle.net.specs.File.{fileOf, headOf, pairsRight, stretch}
 use Rattle.net.specs.Refusal.{none, refusal, answer, stageRefusal, readRefusal, headRefusal, pairsRefusal, netRefusal, sectionsRefusal, nodeRefusal, wireRefusal, obstacleRefusal, firstOf, sectionOf}
-use Rattle.pieces.specs.Legal.{Smallest, NoneLegal, listed}
+use Rattle.pieces.specs.Legal.{Smallest, NoneLegal, listed, entryWire, entryPosition, Rises, by-wire, by-position}
 use Rattle.pieces.specs.Size.{listed-size}
-use Rattle.small_nets.specs.Cases.{Least, nodesA, wiresA, nodesJ, wiresJ, nodesC, wiresC, bar}
+use Rattle.lists.specs.Entries.{listed-yes}
+use Rattle.small_nets.specs.Cases.{Least, A, nodesA, wiresA, nodesJ, wiresJ, nodesC, wiresC, bar}
 use Rattle.small_nets.specs.Shown.{small-nets}
+use Rattle.antenna.specs.Exactly.{smallest-size}
 use Rattle.repairs.specs.Promise.{Judged, no-legal-set, too-short, done, Repaired}
 
 -- a smallest list has as many entries as the least number of points
@@ -42,6 +50,63 @@ module _ {s : Stage} {limit : ℕ} {out after : List ℕ} {r : Answer} where
   answer-none none (too-short list m small lt e k) = absurd (none (listed list m) (small .legal))
   answer-none none (done list m small le e k) = absurd (none (listed list m) (small .legal))
 
+-- net A at limit 1: a smallest list is 1 1 and 1 12
+module _ (list : List ℕ) (small : Smallest A 1 list 2) where
+  entry-is : (e : ℕ) → e < 2 → (entryWire list e ≡ 1) × ((entryPosition list e ≡ 1) ⊎ (entryPosition list e ≡ 12))
+  entry-is e p =
+      which (entryWire list e) (entryPosition list e)
+      (small-nets .a-1-only (listed list 2) (small .legal) (smallest-size small) (entryWire list e) (entryPosition list e) (listed-yes list 2 e (entryWire list e) (entryPosition list e) p refl refl))
+    where
+      which : (i t : ℕ) → ((eqb i 1 && eqb t 1) || (eqb i 1 && eqb t 12)) ≡ true → (i ≡ 1) × ((t ≡ 1) ⊎ (t ≡ 12))
+      which i t h =
+          ⊎-elim
+          (λ y. (eqb-true i 1 (and-left (eqb i 1) (eqb t 1) y), inl (eqb-true t 1 (and-right (eqb i 1) (eqb t 1) y))))
+          (λ y. (eqb-true i 1 (and-left (eqb i 1) (eqb t 12) y), inr (eqb-true t 12 (and-right (eqb i 1) (eqb t 12) y))))
+          (or-cases (eqb i 1 && eqb t 1) (eqb i 1 && eqb t 12) h)
+
+  positions : (entryPosition list 0 ≡ 1) × (entryPosition list 1 ≡ 12)
+  positions =
+      rises (small .rising 0 (omega arith))
+    where
+      both : entryPosition list 0 < entryPosition list 1 → (entryPosition list 0 ≡ 1) × (entryPosition list 1 ≡ 12)
+      both less =
+          ⊎-elim
+          (λ a. ⊎-elim (λ b. absurd (native.Mathlib.Nat.lt-irrefl 0 (omega arith))) (λ b. (a, b)) (entry-is 1 (omega arith) .1))
+          (λ a. ⊎-elim (λ b. absurd (native.Mathlib.Nat.lt-irrefl 0 (omega arith))) (λ b. absurd (native.Mathlib.Nat.lt-irrefl 0 (omega arith))) (entry-is 1 (omega arith) .1))
+          (entry-is 0 (omega arith) .1)
+
+      rises : Rises list 0 1 → (entryPosition list 0 ≡ 1) × (entryPosition list 1 ≡ 12)
+      rises (by-wire l) = let a = entry-is 0 (omega arith) .0 in let b = entry-is 1 (omega arith) .0 in absurd (native.Mathlib.Nat.lt-irrefl 0 (omega arith))
+      rises (by-position e l) = both l
+
+  a-1-bytes : list ≡ 1 ∷ 1 ∷ 0 ∷ 1 ∷ 12 ∷ 0 ∷ []
+  a-1-bytes = ext-getD 0 list (1 ∷ 1 ∷ 0 ∷ 1 ∷ 12 ∷ 0 ∷ []) (small .whole) (λ i p. byte i (let w = small .whole in omega arith))
+    where
+      first : entryPosition list 0 ≡ 1
+      first = positions .0
+
+      second : entryPosition list 1 ≡ 12
+      second = positions .1
+
+      byte : (i : ℕ) → i < 6 → getD list i 0 ≡ getD (1 ∷ 1 ∷ 0 ∷ 1 ∷ 12 ∷ 0 ∷ []) i 0
+      byte zero p = entry-is 0 (omega arith) .0
+      byte (suc zero) p = let e = first in omega arith
+      byte (suc (suc zero)) p = let e = first in omega arith
+      byte (suc (suc (suc zero))) p = entry-is 1 (omega arith) .0
+      byte (suc (suc (suc (suc zero)))) p = let e = second in omega arith
+      byte (suc (suc (suc (suc (suc zero))))) p = let e = second in omega arith
+      byte (suc (suc (suc (suc (suc (suc i)))))) p = absurd (native.Mathlib.Nat.lt-irrefl 0 (omega arith))
+
+a-1-done : {out after : List ℕ} {r : Answer} → Judged A 1 out after r → 6 ≤ length out → (r ≡ answer none 2) × (after ≡ 1 ∷ 1 ∷ 0 ∷ 1 ∷ 12 ∷ 0 ∷ drop 6 out)
+a-1-done {out} {after} {r} j fits = (answer-least (small-nets .a-1) j fits, at j)
+  where
+    at : Judged A 1 out after r → after ≡ 1 ∷ 1 ∷ 0 ∷ 1 ∷ 12 ∷ 0 ∷ drop 6 out
+    at (no-legal-set f e k) = absurd (f (small-nets .a-1 .set) (small-nets .a-1 .legal))
+    at (too-short list m small lt e k) = let q = least-count (small-nets .a-1) small in absurd (native.Mathlib.Nat.lt-irrefl 0 (omega arith))
+    at (done list m small le e k) =
+        let q = least-count (small-nets .a-1) small in
+        k ∙ rw (q, a-1-bytes list (subst (λ (x : ℕ). Smallest A 1 list x) q small))
+
 -- net A, J and C as files
 pub fileA : List ℕ
 fileA = fileOf (nodesA 1) (wiresA 1) []
@@ -67,6 +132,11 @@ module _ {out after : List ℕ} {r : Answer} where
   pub a-1 : Repaired 1 1 fileA out after r → length out ≡ 5 → (r ≡ answer (refusal 16 6) 0) × (after ≡ out)
   unfolding fileA fileOf headOf pairsRight stretch stageRefusal readRefusal headRefusal pairsRefusal netRefusal sectionsRefusal nodeRefusal wireRefusal obstacleRefusal firstOf sectionOf
   a-1 p five = answer-short (small-nets .a-1) (p .judged refl) (omega arith)
+
+  -- not an untouched buffer, nor another list: net A at limit 1 with 6 bytes or more lent gets `1 1` and `1 12`, and the bytes behind are as they were
+  pub a-1-list : Repaired 1 1 fileA out after r → 6 ≤ length out → (r ≡ answer none 2) × (after ≡ 1 ∷ 1 ∷ 0 ∷ 1 ∷ 12 ∷ 0 ∷ drop 6 out)
+  unfolding fileA fileOf headOf pairsRight stretch stageRefusal readRefusal headRefusal pairsRefusal netRefusal sectionsRefusal nodeRefusal wireRefusal obstacleRefusal firstOf sectionOf
+  a-1-list p fits = a-1-done (p .judged refl) fits
 
   -- not a cut at distance 0: net A at limit 0 has no legal set
   pub a-0 : Repaired 1 0 fileA out after r → (r ≡ answer (refusal 15 0) 0) × (after ≡ out)
