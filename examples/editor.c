@@ -1,6 +1,6 @@
 /*
- * A small layout editor's side of the desk: it keeps a net, asks for the report and for a smallest set of jumpers, grows the
- * lent buffer after refusal 16, and prints every refusal.
+ * A small layout editor's side of the desk: it keeps a net, asks for the report and for a smallest set of jumpers, lends more
+ * bytes where a call asks for them, and prints every refusal.
  */
 #include <stdio.h>
 #include <stdlib.h>
@@ -13,21 +13,24 @@ typedef struct {
     size_t len;
 } buffer;
 
-static void grow(buffer *b, uint64_t len) {
-    uint8_t *bytes = realloc(b->bytes, (size_t)len);
+/* If the answer asks for more bytes, the buffer has them now and the call is to be made again. */
+static int grown(buffer *b, antenna_answer a) {
+    if (a.number != ANTENNA_REFUSED_BUFFER) return 0;
+    uint8_t *bytes = realloc(b->bytes, (size_t)a.place);
     if (bytes == NULL) {
         fprintf(stderr, "out of memory\n");
         exit(2);
     }
     b->bytes = bytes;
-    b->len = (size_t)len;
+    b->len = (size_t)a.place;
+    return 1;
 }
 
 /* The net as the editor keeps it. */
-enum { MOST = 256 };
+enum { MOST = 256, NODE_BYTES = 5, WIRE_BYTES = 3, OBSTACLE_BYTES = 8 };
 
 typedef struct {
-    uint8_t nodes[5 * MOST], wires[3 * MOST], obstacles[8 * MOST];
+    uint8_t nodes[NODE_BYTES * MOST], wires[WIRE_BYTES * MOST], obstacles[OBSTACLE_BYTES * MOST];
     size_t nodes_len, wires_len, obstacles_len;
 } net;
 
@@ -45,7 +48,7 @@ static void add_node(net *n, unsigned x, unsigned y, unsigned flags) {
     put16(at, x);
     put16(at + 2, y);
     at[4] = (uint8_t)flags;
-    n->nodes_len += 5;
+    n->nodes_len += NODE_BYTES;
 }
 
 static void add_wire(net *n, unsigned parent, unsigned layer, unsigned factor) {
@@ -53,7 +56,7 @@ static void add_wire(net *n, unsigned parent, unsigned layer, unsigned factor) {
     at[0] = (uint8_t)parent;
     at[1] = (uint8_t)layer;
     at[2] = (uint8_t)factor;
-    n->wires_len += 3;
+    n->wires_len += WIRE_BYTES;
 }
 
 static void add_obstacle(net *n, unsigned x1, unsigned y1, unsigned x2, unsigned y2) {
@@ -62,74 +65,91 @@ static void add_obstacle(net *n, unsigned x1, unsigned y1, unsigned x2, unsigned
     put16(at + 2, y1);
     put16(at + 4, x2);
     put16(at + 6, y2);
-    n->obstacles_len += 8;
+    n->obstacles_len += OBSTACLE_BYTES;
+}
+
+/* A refusal in words. A later library may have numbers that this program does not know. */
+static const char *words(uint32_t number) {
+    switch (number) {
+    case ANTENNA_REFUSED_STAGE: return "stage outside 1 to 16";
+    case ANTENNA_REFUSED_HEAD: return "not a net file";
+    case ANTENNA_REFUSED_PAIRS: return "sections out of place";
+    case ANTENNA_REFUSED_NODE_SECTION: return "node section";
+    case ANTENNA_REFUSED_WIRE_SECTION: return "wire section";
+    case ANTENNA_REFUSED_OBSTACLE_SECTION: return "obstacle section";
+    case ANTENNA_REFUSED_NODE_FLAGS: return "flags of node";
+    case ANTENNA_REFUSED_WIRE_PARENT: return "parent of wire";
+    case ANTENNA_REFUSED_WIRE_RANGE: return "layer or factor of wire";
+    case ANTENNA_REFUSED_WIRE_ENDS: return "ends of wire";
+    case ANTENNA_REFUSED_OBSTACLE_CORNERS: return "corners of obstacle";
+    case ANTENNA_REFUSED_JUMPER_LIST: return "jumper out of order";
+    case ANTENNA_REFUSED_JUMPER_POINT: return "no such point for jumper";
+    case ANTENNA_REFUSED_JUMPER_BARRED: return "jumper barred";
+    case ANTENNA_REFUSED_NO_LEGAL_SET: return "no legal set";
+    case ANTENNA_REFUSED_BUFFER: return "bytes needed";
+    default: return "unknown refusal";
+    }
 }
 
 static void print_refusal(const char *what, antenna_answer a) {
-    static const char *const words[] = {
-        "done", "stage outside 1 to 16", "not a net file", "sections out of place", "node section", "wire section",
-        "obstacle section", "flags of node", "parent of wire", "layer or factor of wire", "ends of wire",
-        "corners of obstacle", "jumper out of order", "no such point for jumper", "jumper barred", "no legal set",
-        "bytes needed"};
-    printf("%s: refused %u %llu (%s)\n", what, (unsigned)a.number, (unsigned long long)a.place, words[a.number]);
+    printf("%s: refused %u %llu (%s)\n", what, (unsigned)a.number, (unsigned long long)a.place, words(a.number));
 }
 
 /* The net file, in a buffer that grows to what is needed; 0 after a refusal. */
 static int save(const net *n, buffer *file) {
-    for (;;) {
-        antenna_answer a = antenna_write(n->nodes, n->nodes_len, n->wires, n->wires_len, n->obstacles,
-                                         n->obstacles_len, file->bytes, file->len);
-        if (a.number == ANTENNA_DONE) return 1;
-        if (a.number != ANTENNA_BUFFER) {
-            print_refusal("save", a);
-            return 0;
-        }
-        grow(file, a.place);
-    }
+    antenna_answer a;
+    do {
+        a = antenna_write(n->nodes, n->nodes_len, n->wires, n->wires_len, n->obstacles, n->obstacles_len, file->bytes,
+                          file->len);
+    } while (grown(file, a));
+    if (a.number == ANTENNA_DONE) return 1;
+    print_refusal("save", a);
+    return 0;
+}
+
+static void print_record(const uint8_t *r) {
+    unsigned long weight = get16(r + 3) + 65536ul * get16(r + 5);
+    printf("  piece %u %u: weight %lu%s%s%s\n", r[0], get16(r + 1), weight, r[7] & ANTENNA_FLAG_GATE ? ", gate" : "",
+           r[7] & ANTENNA_FLAG_SOURCE ? ", source" : "", r[7] & ANTENNA_FLAG_HARMFUL ? ", HARMFUL" : "");
 }
 
 static void show_report(uint32_t stage, uint32_t limit, const buffer *file, const uint8_t *jumpers, size_t jumpers_len) {
     buffer out = {NULL, 0};
     antenna_answer a;
-    while ((a = antenna_report(stage, limit, file->bytes, file->len, jumpers, jumpers_len, out.bytes, out.len)).number ==
-           ANTENNA_BUFFER)
-        grow(&out, a.place);
+    do {
+        a = antenna_report(stage, limit, file->bytes, file->len, jumpers, jumpers_len, out.bytes, out.len);
+    } while (grown(&out, a));
     if (a.number != ANTENNA_DONE) print_refusal("report", a);
-    for (uint64_t k = 0; k < a.count; k++) {
-        const uint8_t *r = out.bytes + 12 * k;
-        printf("  piece %u %u: weight %lu%s%s%s\n", r[0], get16(r + 1),
-               (unsigned long)(get16(r + 3) + 65536ul * get16(r + 5)), r[7] & 1 ? ", gate" : "",
-               r[7] & 2 ? ", source" : "", r[7] & 4 ? ", HARMFUL" : "");
-    }
+    for (uint64_t k = 0; k < a.count; k++) print_record(out.bytes + ANTENNA_RECORD_BYTES * k);
     free(out.bytes);
 }
 
 static void mend(uint32_t stage, uint32_t limit, const net *n) {
-    buffer file = {NULL, 0}, list = {NULL, 0};
-    antenna_answer a;
+    buffer file = {NULL, 0};
     printf("stage %u, limit %u\n", (unsigned)stage, (unsigned)limit);
     if (save(n, &file)) {
+        uint8_t list[ANTENNA_REPAIR_MOST];
         show_report(stage, limit, &file, NULL, 0);
-        while ((a = antenna_repair(stage, limit, file.bytes, file.len, list.bytes, list.len)).number == ANTENNA_BUFFER)
-            grow(&list, a.place);
+        antenna_answer a = antenna_repair(stage, limit, file.bytes, file.len, list, sizeof list);
         if (a.number != ANTENNA_DONE) {
             print_refusal("repair", a);
         } else {
-            for (uint64_t k = 0; k < a.count; k++)
-                printf("  jumper on wire %u at %u\n", list.bytes[3 * k], get16(list.bytes + 3 * k + 1));
-            show_report(stage, limit, &file, list.bytes, (size_t)(3 * a.count));
+            for (uint64_t k = 0; k < a.count; k++) {
+                const uint8_t *entry = list + ANTENNA_JUMPER_BYTES * k;
+                printf("  jumper on wire %u at %u\n", entry[0], get16(entry + 1));
+            }
+            show_report(stage, limit, &file, list, (size_t)(ANTENNA_JUMPER_BYTES * a.count));
         }
     }
     free(file.bytes);
-    free(list.bytes);
 }
 
 int main(void) {
     static net n;
 
     /* two gates 13 steps apart */
-    add_node(&n, 0, 0, ANTENNA_GATE);
-    add_node(&n, 13, 0, ANTENNA_GATE);
+    add_node(&n, 0, 0, ANTENNA_FLAG_GATE);
+    add_node(&n, 13, 0, ANTENNA_FLAG_GATE);
     add_wire(&n, 0, 1, 1);
     mend(1, 13, &n);
     mend(1, 1, &n);

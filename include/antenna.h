@@ -15,6 +15,8 @@
  * Any bytes are taken: a file that is wrong is refused by the number of the
  * first condition it meets. After a refusal `out` holds what it held before;
  * after success so does every byte behind what was written.
+ *
+ * Platform: x86-64 Linux, as gcc and clang call functions there.
  */
 #ifndef ANTENNA_H
 #define ANTENNA_H
@@ -22,44 +24,67 @@
 #include <stddef.h>
 #include <stdint.h>
 
+/*
+ * The minor number rises when a call, a name, a width or an answer is added
+ * or changed. While the major number is 0 such a rise may ask callers to
+ * change their programs; from 1 on only a rise of the major number may.
+ */
 #define ANTENNA_VERSION_MAJOR 0
-#define ANTENNA_VERSION_MINOR 1
+#define ANTENNA_VERSION_MINOR 2
+
+#define ANTENNA_JUMPER_BYTES 3  /* an entry of a jumper list */
+#define ANTENNA_RECORD_BYTES 12 /* a piece record */
+
+/*
+ * Bytes that are enough for every list of antenna_repair: a smallest set has
+ * at most two jumpers on each of 255 wires.
+ */
+#define ANTENNA_REPAIR_MOST (2 * 255 * ANTENNA_JUMPER_BYTES)
+
+/*
+ * Bytes of stack that are enough for each call. They are measured, with some
+ * to spare; no theorem bounds the stack.
+ */
+#define ANTENNA_READ_STACK 512
+#define ANTENNA_WRITE_STACK 512
+#define ANTENNA_REPORT_STACK 8192
+#define ANTENNA_REPAIR_STACK 32768
 
 #ifdef __cplusplus
 extern "C" {
 #endif
 
-/* Refusals: the number of an answer. The place is given behind each. */
+/* The number of an answer. The place is given behind each. */
 enum {
-    ANTENNA_DONE = 0,              /* no refusal: place 0 */
-    ANTENNA_STAGE = 1,             /* stage outside 1 to 16: 0 */
-    ANTENNA_HEAD = 2,              /* file under 28 bytes, or version not 1, or pair count not 3: 0 */
-    ANTENNA_PAIRS = 3,             /* a section does not begin where the one before ends, the first at 28, the last ending with the file: 0 */
-    ANTENNA_NODE_SECTION = 4,      /* node section not in fives, or not 1 to 256 nodes: 0 */
-    ANTENNA_WIRE_SECTION = 5,      /* wire section not 3 x (nodes - 1) bytes: 0 */
-    ANTENNA_OBSTACLE_SECTION = 6,  /* obstacle section not in eights, or over 256 obstacles: 0 */
-    ANTENNA_NODE_FLAGS = 7,        /* flags over 3: the node */
-    ANTENNA_WIRE_PARENT = 8,       /* parent not below the wire's own number: the wire */
-    ANTENNA_WIRE_RANGE = 9,        /* layer not 1 to 16, or factor 0: the wire */
-    ANTENNA_WIRE_ENDS = 10,        /* ends differ in x and y: the wire */
-    ANTENNA_OBSTACLE_CORNERS = 11, /* corners reversed: the obstacle, from 0 */
-    ANTENNA_JUMPER_LIST = 12,      /* jumper list not in threes: 0; or an entry not after the one before: the entry, from 0 */
-    ANTENNA_JUMPER_POINT = 13,     /* no such wire, a wire absent at the stage, or a position outside it: the entry */
-    ANTENNA_JUMPER_BARRED = 14,    /* an obstacle holds the point: the entry */
-    ANTENNA_NO_LEGAL_SET = 15,     /* no set of jumpers makes the net safe: 0 */
-    ANTENNA_BUFFER = 16            /* more bytes are needed than were lent: the bytes needed */
+    ANTENNA_DONE = 0,                      /* no refusal: place 0 */
+    ANTENNA_REFUSED_STAGE = 1,             /* stage outside 1 to 16: 0 */
+    ANTENNA_REFUSED_HEAD = 2,              /* file under 28 bytes, or version not 1, or pair count not 3: 0 */
+    ANTENNA_REFUSED_PAIRS = 3,             /* a section does not begin where the one before ends, the first at 28, the last ending with the file: 0 */
+    ANTENNA_REFUSED_NODE_SECTION = 4,      /* node section not in fives, or not 1 to 256 nodes: 0 */
+    ANTENNA_REFUSED_WIRE_SECTION = 5,      /* wire section not 3 x (nodes - 1) bytes: 0 */
+    ANTENNA_REFUSED_OBSTACLE_SECTION = 6,  /* obstacle section not in eights, or over 256 obstacles: 0 */
+    ANTENNA_REFUSED_NODE_FLAGS = 7,        /* flags over 3: the node */
+    ANTENNA_REFUSED_WIRE_PARENT = 8,       /* parent not below the wire's own number: the wire */
+    ANTENNA_REFUSED_WIRE_RANGE = 9,        /* layer not 1 to 16, or factor 0: the wire */
+    ANTENNA_REFUSED_WIRE_ENDS = 10,        /* ends differ in x and y: the wire */
+    ANTENNA_REFUSED_OBSTACLE_CORNERS = 11, /* corners reversed: the obstacle, from 0 */
+    ANTENNA_REFUSED_JUMPER_LIST = 12,      /* jumper list not in threes: 0; or an entry not after the one before: the entry, from 0 */
+    ANTENNA_REFUSED_JUMPER_POINT = 13,     /* no such wire, a wire absent at the stage, or a position outside it: the entry */
+    ANTENNA_REFUSED_JUMPER_BARRED = 14,    /* an obstacle holds the point: the entry */
+    ANTENNA_REFUSED_NO_LEGAL_SET = 15,     /* no set of jumpers makes the net safe: 0 */
+    ANTENNA_REFUSED_BUFFER = 16            /* more bytes are needed than were lent: the bytes needed */
 };
 
 /* The flags of a node, and of a piece record. */
 enum {
-    ANTENNA_GATE = 1,
-    ANTENNA_SOURCE = 2,
-    ANTENNA_HARMFUL = 4 /* of a record only */
+    ANTENNA_FLAG_GATE = 1,
+    ANTENNA_FLAG_SOURCE = 2,
+    ANTENNA_FLAG_HARMFUL = 4 /* of a record only */
 };
 
 /* What every call returns. After a refusal count is 0. */
 typedef struct {
-    uint32_t number; /* 0: done; otherwise the refusal */
+    uint32_t number; /* ANTENNA_DONE or the refusal */
     uint64_t place;  /* after a refusal: see above */
     uint64_t count;  /* after success: see each call */
 } antenna_answer;
@@ -94,7 +119,7 @@ antenna_answer antenna_write(const uint8_t *nodes, size_t nodes_len,
  * Jumper list: wire (8 bits), position (16 bits) each, strictly rising by
  * wire, then position. Position t lies t steps from node i towards its parent.
  *
- * Piece record, 12 bytes: number (8), position (16), weight (32), flags (8:
+ * Piece record: number (8), position (16), weight (32), flags (8:
  * 1 gate, 2 source, 4 harmful), layers (16: bit n - 1 for layer n), the number
  * of layers (8), the lowest layer (8; 0 if it has no step). A piece with nodes
  * is named by its lowest node and position 0, another by its wire and the
@@ -110,7 +135,8 @@ antenna_answer antenna_report(uint32_t stage, uint32_t limit,
  * Writes a smallest set of jumpers after which no piece of the stage is
  * harmful, as a jumper list. Tries refusals 1 to 11, 15, then 16.
  * Count: the number of jumpers. No legal set has fewer; which of several
- * smallest sets is written is left open. 1,530 bytes are always enough.
+ * smallest sets is written is left open. ANTENNA_REPAIR_MOST bytes are
+ * always enough.
  */
 antenna_answer antenna_repair(uint32_t stage, uint32_t limit,
                               const uint8_t *file, size_t file_len,

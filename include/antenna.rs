@@ -1,6 +1,43 @@
-//! The calls of `antenna.h` for Rust. A slice goes over as its pointer and length.
+//! The calls and constants of `antenna.h` for Rust; what they mean stands there. A slice goes over as its pointer and length.
 
-/// What every call returns: number 0 is done, otherwise the refusal; after a refusal the count is 0.
+// a program uses those it needs
+#![allow(dead_code)]
+
+pub const VERSION_MAJOR: u32 = 0;
+pub const VERSION_MINOR: u32 = 2;
+
+pub const JUMPER_BYTES: usize = 3;
+pub const RECORD_BYTES: usize = 12;
+pub const REPAIR_MOST: usize = 2 * 255 * JUMPER_BYTES;
+
+pub const READ_STACK: usize = 512;
+pub const WRITE_STACK: usize = 512;
+pub const REPORT_STACK: usize = 8192;
+pub const REPAIR_STACK: usize = 32768;
+
+pub const DONE: u32 = 0;
+pub const REFUSED_STAGE: u32 = 1;
+pub const REFUSED_HEAD: u32 = 2;
+pub const REFUSED_PAIRS: u32 = 3;
+pub const REFUSED_NODE_SECTION: u32 = 4;
+pub const REFUSED_WIRE_SECTION: u32 = 5;
+pub const REFUSED_OBSTACLE_SECTION: u32 = 6;
+pub const REFUSED_NODE_FLAGS: u32 = 7;
+pub const REFUSED_WIRE_PARENT: u32 = 8;
+pub const REFUSED_WIRE_RANGE: u32 = 9;
+pub const REFUSED_WIRE_ENDS: u32 = 10;
+pub const REFUSED_OBSTACLE_CORNERS: u32 = 11;
+pub const REFUSED_JUMPER_LIST: u32 = 12;
+pub const REFUSED_JUMPER_POINT: u32 = 13;
+pub const REFUSED_JUMPER_BARRED: u32 = 14;
+pub const REFUSED_NO_LEGAL_SET: u32 = 15;
+pub const REFUSED_BUFFER: u32 = 16;
+
+pub const FLAG_GATE: u8 = 1;
+pub const FLAG_SOURCE: u8 = 2;
+pub const FLAG_HARMFUL: u8 = 4;
+
+/// What every call returns: `DONE` or the refusal; after a refusal the count is 0.
 #[repr(C)]
 #[derive(Clone, Copy, Debug, PartialEq, Eq)]
 pub struct Answer {

@@ -1,5 +1,6 @@
 //! An implementation of document 01 that shares nothing with the proved one, and what the tests need around it.
 
+pub mod compile;
 pub mod generate;
 #[path = "../../include/antenna.rs"]
 pub mod library;
