@@ -2,7 +2,9 @@
 # make test     prove every crate, build the library, run the Rust tests; the last line is 'N passed, M failed'
 # make bench    the proved library against plain Rust, as ratios, and the stack that each call takes
 # make fuzz     all four calls against the independent implementation under libFuzzer, for SECONDS (3600)
-# make install  library, header, pkg-config file, programs and man pages under PREFIX
+# make install  library, header, pkg-config file, programs and man pages under PREFIX (/usr/local)
+#
+# KIT=any with any of these takes another Rattle kit than the one that the file KIT names.
 
 PREFIX ?= /usr/local
 SECONDS ?= 3600
@@ -10,7 +12,10 @@ CARGO = cargo build --release --offline --locked --quiet --manifest-path
 LIBRARY = target/staticlib/libantenna.a
 COMMAND = command/target/release/antenna
 
-.PHONY: test demo bench fuzz install library programs tools
+.PHONY: help test demo bench fuzz install library programs tools
+
+help:
+	@sed -n '/^#/!q; s/^# \?//p' Makefile
 
 test: tools
 	@tests/run
