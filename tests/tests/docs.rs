@@ -81,7 +81,8 @@ fn declares(file: &Path, name: &str) -> bool {
 #[test]
 fn theorems_are_there() {
     let mut checked = 0;
-    for row in rows_of_trust() {
+    let rows = rows_of_trust();
+    for row in rows.iter().take_while(|row| row[0] != "wrong program") {
         let mut folder = PathBuf::new();
         let mut names = Vec::new();
         for (_, word) in quoted(&row[1]) {
@@ -104,25 +105,45 @@ fn theorems_are_there() {
     assert!(checked > 25);
 }
 
-/// An edit or a theorem that TRUST.md sets against a wrong program is there.
+/// `specs/Excluded.antt` of each crate that has one.
+fn excluded() -> Vec<PathBuf> {
+    let crates = std::fs::read_dir(root().join("crates")).unwrap();
+    crates
+        .map(|folder| folder.unwrap().path().join("specs/Excluded.antt"))
+        .filter(|file| file.exists())
+        .collect()
+}
+
+/// What TRUST.md sets against a wrong program is there: an edit in the crate named before it; a theorem in some crate's
+/// `Excluded.antt`, and in the file named behind it where one is.
 #[test]
 fn refused_programs() {
     let mut checked = 0;
+    let files = excluded();
     let rows = rows_of_trust();
     let table = rows.iter().skip_while(|row| row[0] != "wrong program");
     for row in table.skip(1) {
         let mut by = "";
+        let mut theorems = Vec::new();
         for (before, name) in quoted(&row[1]) {
             let word = before.trim_matches([' ', ',', ';']);
             if !word.is_empty() {
                 by = word;
             }
-            if by == "theorem" {
-                let file = root().join("crates/antenna/specs/Excluded.antt");
-                assert!(declares(&file, name), "{name}");
-            } else {
-                let edit = root().join(format!("crates/{by}/must-fail/{name}.edit"));
-                assert!(edit.exists(), "{}", edit.display());
+            match by {
+                "theorem" => {
+                    assert!(files.iter().any(|file| declares(file, name)), "{name}");
+                    theorems.push(name);
+                }
+                "in" => {
+                    for theorem in theorems.drain(..) {
+                        assert!(declares(&root().join(name), theorem), "{theorem} in {name}");
+                    }
+                }
+                _ => {
+                    let edit = root().join(format!("crates/{by}/must-fail/{name}.edit"));
+                    assert!(edit.exists(), "{}", edit.display());
+                }
             }
             checked += 1;
         }

@@ -13,13 +13,13 @@ use Rattle.laws.specs.Sum.{χ, sum, any}
 use Rattle.laws.specs.Sums.{and-left, and-right, and-intro, no-both, not-true-false, or-cases, any-yes, any-some, last-or-below}
 use Rattle.net.specs.Layout.{entryBytes}
 use Rattle.net.specs.Stage.{Stage, Formed}
-use Rattle.net.specs.Refusal.{none, met, orElse, refusedIf, firstOf}
+use Rattle.net.specs.Refusal.{none, met, refusedIf, firstOf}
 use Rattle.net.specs.First.{unmet-if, unmet-l, unmet-r, first-unmet}
 use Rattle.pieces.specs.Piece.{Points}
 use Rattle.pieces.specs.Name.{Inside}
 use Rattle.pieces.specs.Legal.{Free, size, entryWire, entryPosition, listed, Rises, by-wire, by-position}
 use Rattle.pieces.specs.Size.{AllFree, single, without, one-less, listed-size}
-use Rattle.pieces.specs.JumperList.{entryCount, after, entryRefusal, listRefusal, setOf}
+use Rattle.pieces.specs.JumperList.{entryCount, after, pointRefusal, entryRefusal, listRefusal, setOf}
 
 -- each of n entries may be cut
 abbrev pub EntriesFree : Stage → List ℕ → ℕ → Type 0
@@ -40,43 +40,39 @@ after-rises list d e h =
     by-position (eqb-true _ _ (and-left w p b)) (ltb-true _ _ (and-right w p b)))
     (or-cases (ltb (entryWire list d) (entryWire list e)) (eqb (entryWire list d) (entryWire list e) && ltb (entryPosition list d) (entryPosition list e)) h)
 
--- an entry stands after the one before, and inside a present wire
+-- a point that meets neither 13 nor 14 may be cut
+pub point-free : (s : Stage) (i t place : ℕ) → met (pointRefusal s i t place) ≡ false → Free s i t
+unfolding pointRefusal
+point-free s i t place u =
+    let p = s .present i in
+    let l = leb 1 t in
+    let h = ltb t (s .len i) in
+    let r13 = refusedIf (not (p && (l && h))) 13 place in
+    let r14 = refusedIf (s .barred i t) 14 place in
+    let inside : (p && (l && h)) ≡ true = not-false (p && (l && h)) (unmet-if (not (p && (l && h))) 13 place refl (unmet-l r13 r14 u)) in
+    record {
+      present = and-left p (l && h) inside;
+      low = leb-true _ _ (and-left l h (and-right p (l && h) inside));
+      high = ltb-true _ _ (and-right l h (and-right p (l && h) inside));
+      clear = unmet-if _ 14 place refl (unmet-r r13 r14 u);
+    }
+
+-- an entry stands after the one before, if there is one
 abbrev behind : List ℕ → ℕ → Bool
 behind list e = eqb e 0 || after list (e - 1) e
-
-abbrev inside : Stage → List ℕ → ℕ → Bool
-inside s list e =
-    s .present (entryWire list e) && (leb 1 (entryPosition list e) && ltb (entryPosition list e) (s .len (entryWire list e)))
 
 module _ (s : Stage) (list : List ℕ) (e : ℕ) (u : met (entryRefusal s list e) ≡ false) where
   not-12 : behind list e ≡ true
   unfolding entryRefusal
   not-12 =
-      let r13 = refusedIf (not (inside s list e)) 13 e in
-      let r14 = refusedIf (s .barred (entryWire list e) (entryPosition list e)) 14 e in
-      not-false (behind list e) (unmet-if (not (behind list e)) 12 e refl (unmet-l (refusedIf (not (behind list e)) 12 e) (orElse r13 r14) u))
-
-  not-13-14 : met (orElse (refusedIf (not (inside s list e)) 13 e) (refusedIf (s .barred (entryWire list e) (entryPosition list e)) 14 e)) ≡ false
-  unfolding entryRefusal
-  not-13-14 =
-      unmet-r (refusedIf (not (behind list e)) 12 e)
-      (orElse (refusedIf (not (inside s list e)) 13 e) (refusedIf (s .barred (entryWire list e) (entryPosition list e)) 14 e))
-      u
+      let r12 = refusedIf (not (behind list e)) 12 e in
+      not-false (behind list e) (unmet-if (not (behind list e)) 12 e refl (unmet-l r12 (pointRefusal s (entryWire list e) (entryPosition list e) e) u))
 
   pub free-of : Free s (entryWire list e) (entryPosition list e)
+  unfolding entryRefusal
   free-of =
-      let r13 = refusedIf (not (inside s list e)) 13 e in
-      let r14 = refusedIf (s .barred (entryWire list e) (entryPosition list e)) 14 e in
-      let p = s .present (entryWire list e) in
-      let l = leb 1 (entryPosition list e) in
-      let h = ltb (entryPosition list e) (s .len (entryWire list e)) in
-      let t13 : (p && (l && h)) ≡ true = not-false (inside s list e) (unmet-if (not (inside s list e)) 13 e refl (unmet-l r13 r14 not-13-14)) in
-      record {
-        present = and-left p (l && h) t13;
-        low = leb-true _ _ (and-left l h (and-right p (l && h) t13));
-        high = ltb-true _ _ (and-right l h (and-right p (l && h) t13));
-        clear = unmet-if _ 14 e refl (unmet-r r13 r14 not-13-14);
-      }
+      let r12 = refusedIf (not (behind list e)) 12 e in
+      point-free s (entryWire list e) (entryPosition list e) e (unmet-r r12 (pointRefusal s (entryWire list e) (entryPosition list e) e) u)
 
 pub rises-of : (s : Stage) (list : List ℕ) (e : ℕ) → met (entryRefusal s list (suc e)) ≡ false → Rises list e (suc e)
 rises-of s list e u =

@@ -13,13 +13,13 @@ use Rattle.net.specs.Layout.{entryBytes}
 use Rattle.net.specs.declared.Refusal.{Refusal}
 use Rattle.net.specs.Net.{nodeCount, wireLayer, wireLength, barred}
 use Rattle.net.specs.Stage.{Stage, stageOf}
-use Rattle.net.specs.Refusal.{none, refusal, met, refusedIf, orElse, firstOf, netRefusal}
+use Rattle.net.specs.Refusal.{none, refusal, met, refusedIf, firstOf, netRefusal}
 use Rattle.net.specs.First.{none-if, none-or}
 use Rattle.points.specs.Cuttable.{Checked}
 use Rattle.net.specs.Accepted.{net-right}
 use Rattle.points.specs.Geometry.{checked-of}
 use Rattle.pieces.specs.Legal.{entryWire, entryPosition}
-use Rattle.pieces.specs.JumperList.{entryCount, after, entryRefusal, listRefusal}
+use Rattle.pieces.specs.JumperList.{entryCount, after, pointRefusal, entryRefusal, listRefusal}
 
 -- each wire of the net is checked
 abbrev pub WiresChecked : List ℕ → List ℕ → Type 0
@@ -101,25 +101,30 @@ module _ (ns ws : List ℕ) (k i t : ℕ) (h : true ≡ liesInside ns ws k i t) 
       let l = ltb-true t (wireLength ns ws i) (and-right (leb 1 t) (ltb t (wireLength ns ws i)) (and-right p (leb 1 t && ltb t (wireLength ns ws i)) (sym h))) in
       omega arith
 
--- an entry: each test after those before it
-module _ (ns ws os : List ℕ) (k : ℕ) (list : List ℕ) (e : ℕ) where
-  pub entry-not-after : false ≡ (eqb e 0 || after list (e - 1) e) → refusal 12 e ≡ entryRefusal (stageOf ns ws os k) list e
+-- a point: each test after those before it
+module _ (ns ws os : List ℕ) (k i t place : ℕ) where
+  pub point-outside : false ≡ liesInside ns ws k i t → refusal 13 place ≡ pointRefusal (stageOf ns ws os k) i t place
+  unfolding pointRefusal stageOf liesInside
+  point-outside h = rw (← h)
+
+  module _ (a : true ≡ liesInside ns ws k i t) where
+    pub point-barred : true ≡ barred ns ws os i t → refusal 14 place ≡ pointRefusal (stageOf ns ws os k) i t place
+    unfolding pointRefusal stageOf liesInside
+    point-barred h = rw (← a, ← h)
+
+    pub point-right : false ≡ barred ns ws os i t → none ≡ pointRefusal (stageOf ns ws os k) i t place
+    unfolding pointRefusal stageOf liesInside
+    point-right h = rw (← a, ← h)
+
+-- an entry: 12, then its point
+module _ (s : Stage) (list : List ℕ) (e : ℕ) where
+  pub entry-not-after : false ≡ (eqb e 0 || after list (e - 1) e) → refusal 12 e ≡ entryRefusal s list e
   unfolding entryRefusal
   entry-not-after h = rw (← h)
 
-  module _ (a : true ≡ (eqb e 0 || after list (e - 1) e)) where
-    pub entry-outside : false ≡ liesInside ns ws k (entryWire list e) (entryPosition list e) → refusal 13 e ≡ entryRefusal (stageOf ns ws os k) list e
-    unfolding entryRefusal stageOf liesInside
-    entry-outside h = rw (← a, ← h)
-
-    module _ (b : true ≡ liesInside ns ws k (entryWire list e) (entryPosition list e)) where
-      pub entry-barred : true ≡ barred ns ws os (entryWire list e) (entryPosition list e) → refusal 14 e ≡ entryRefusal (stageOf ns ws os k) list e
-      unfolding entryRefusal stageOf liesInside
-      entry-barred h = rw (← a, ← b, ← h)
-
-      pub entry-right : false ≡ barred ns ws os (entryWire list e) (entryPosition list e) → none ≡ entryRefusal (stageOf ns ws os k) list e
-      unfolding entryRefusal stageOf liesInside
-      entry-right h = rw (← a, ← b, ← h)
+  pub entry-point : true ≡ (eqb e 0 || after list (e - 1) e) → pointRefusal s (entryWire list e) (entryPosition list e) e ≡ entryRefusal s list e
+  unfolding entryRefusal
+  entry-point h = rw (← h)
 
 -- a list: its length, then each entry
 module _ (s : Stage) (list : List ℕ) where
@@ -127,13 +132,16 @@ module _ (s : Stage) (list : List ℕ) where
   unfolding listRefusal
   list-not-threes n = rw (ne-eqb _ _ n)
 
+  point-none : (i t place : ℕ) → met (pointRefusal s i t place) ≡ false → none ≡ pointRefusal s i t place
+  unfolding pointRefusal
+  point-none i t place =
+      none-or (refusedIf (not (s .present i && (leb 1 t && ltb t (s .len i)))) 13 place) (refusedIf (s .barred i t) 14 place) (none-if (s .barred i t) 14 place refl)
+
   pub entry-none : (e : ℕ) → met (entryRefusal s list e) ≡ false → none ≡ entryRefusal s list e
   unfolding entryRefusal
-  entry-none e u =
-      let r12 = refusedIf (not (eqb e 0 || after list (e - 1) e)) 12 e in
-      let r13 = refusedIf (not (s .present (entryWire list e) && (leb 1 (entryPosition list e) && ltb (entryPosition list e) (s .len (entryWire list e))))) 13 e in
-      let b = s .barred (entryWire list e) (entryPosition list e) in
-      none-or r12 (orElse r13 (refusedIf b 14 e)) (none-or r13 (refusedIf b 14 e) (none-if b 14 e refl)) u
+  entry-none e =
+      none-or (refusedIf (not (eqb e 0 || after list (e - 1) e)) 12 e) (pointRefusal s (entryWire list e) (entryPosition list e) e)
+      (point-none (entryWire list e) (entryPosition list e) e)
 
   module _ (a : length list % entryBytes ≡ 0) where
     pub list-entries : {r : Refusal} → r ≡ firstOf (entryCount list) (λ e. entryRefusal s list e) → r ≡ listRefusal s list

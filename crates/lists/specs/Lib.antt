@@ -1,3 +1,4 @@
 pub mod EntriesChecked
 pub mod Entries
 pub mod EntriesOfWire
+pub mod Excluded

@@ -1,9 +1,11 @@
-// The jumper list: its entries read in place, and the first of 12 to 14 that it meets at a stage.
+// Refusals 12 to 14: on a whole list, and 13 and 14 on one point.
+use crate::entries::entry_count;
+use crate::entries::entry_position;
+use crate::entries::entry_wire;
 use net::Refusal;
 use net::answers::none;
 use net::answers::refused;
 use net::fields::node_count;
-use net::fields::u16_at;
 use net::fields::wire_layer;
 use net::layout::ENTRY_BYTES;
 use points::is_barred;
@@ -15,28 +17,8 @@ ghost use lib.Dec.{eqb};
 ghost use Rattle.net.specs.Refusal.{none, netRefusal};
 ghost use Rattle.net.specs.Stage.{stageOf};
 ghost use Rattle.pieces.specs.Legal.{entryWire, entryPosition};
-ghost use Rattle.pieces.specs.JumperList.{entryCount, after, entryRefusal, listRefusal};
+ghost use Rattle.pieces.specs.JumperList.{entryCount, after, pointRefusal, entryRefusal, listRefusal};
 ghost use Rattle.lists.specs.EntriesChecked.{WiresChecked, liesInside};
-
-pub fn entry_count(list: &[u8]) -> usize
-    ensures { λ r. ⌜ r ≡ entryCount (now (list .entry)) ⌝ }
-{
-    list.len() / ENTRY_BYTES
-}
-
-pub fn entry_wire(list: &[u8], e: usize) -> usize
-    requires { ⌜ e < entryCount (now list) ⌝ }
-    ensures { λ r. ⌜ r ≡ entryWire (now (list .entry)) e ⌝ }
-{
-    list[ENTRY_BYTES * e] as usize
-}
-
-pub fn entry_position(list: &[u8], e: usize) -> u32
-    requires { ⌜ e < entryCount (now list) ⌝ }
-    ensures { λ r. ⌜ r ≡ entryPosition (now (list .entry)) e ⌝ }
-{
-    u16_at(list, ENTRY_BYTES * e + 1) as u32
-}
 
 // Entry e stands after the one before, if there is one.
 fn is_after(list: &[u8], e: usize) -> bool
@@ -77,7 +59,29 @@ fn lies_inside(stage: u8, nodes: &[u8], wires: &[u8], i: usize, t: u32) -> bool
     t < length_of(nodes, wires, i)
 }
 
-// Entry e: 12, 13, 14.
+// Position t of wire i: 13, 14.
+pub fn point_refusal(
+    stage: u8,
+    nodes: &[u8],
+    wires: &[u8],
+    obstacles: &[u8],
+    i: usize,
+    t: u32,
+    place: u64,
+) -> Refusal
+    requires { ⌜ netRefusal (now nodes) (now wires) (now obstacles) ≡ none ⌝ }
+    ensures { λ r. ⌜ r ≡ pointRefusal (stageOf (now (nodes .entry)) (now (wires .entry)) (now (obstacles .entry)) stage) i t place ⌝ }
+{
+    if !lies_inside(stage, nodes, wires, i, t) {
+        return refused(13, place);
+    }
+    if is_barred(nodes, wires, obstacles, i, t) {
+        return refused(14, place);
+    }
+    none()
+}
+
+// Entry e: 12, then 13 and 14 on its point.
 fn entry_refusal(
     stage: u8,
     nodes: &[u8],
@@ -90,23 +94,15 @@ fn entry_refusal(
     requires { ⌜ e < entryCount (now list) ⌝ }
     ensures { λ r. ⌜ r ≡ entryRefusal (stageOf (now (nodes .entry)) (now (wires .entry)) (now (obstacles .entry)) stage) (now (list .entry)) e ⌝ }
 {
-    let i = entry_wire(list, e);
-    let t = entry_position(list, e);
-    let after = is_after(list, e);
-    let inside = lies_inside(stage, nodes, wires, i, t);
-    if !after {
+    if !is_after(list, e) {
         return refused(12, e as u64);
     }
-    if !inside {
-        return refused(13, e as u64);
-    }
-    if is_barred(nodes, wires, obstacles, i, t) {
-        return refused(14, e as u64);
-    }
-    none()
+    let i = entry_wire(list, e);
+    let t = entry_position(list, e);
+    point_refusal(stage, nodes, wires, obstacles, i, t, e as u64)
 }
 
-// 12 to 14 on a list, for an accepted net at a stage.
+// 12 on the length of a list, then each entry in order.
 pub fn list_refusal(stage: u8, nodes: &[u8], wires: &[u8], obstacles: &[u8], list: &[u8]) -> Refusal
     requires { ⌜ netRefusal (now nodes) (now wires) (now obstacles) ≡ none ⌝ }
     ensures { λ r. ⌜ r ≡ listRefusal (stageOf (now (nodes .entry)) (now (wires .entry)) (now (obstacles .entry)) stage) (now (list .entry)) ⌝ }

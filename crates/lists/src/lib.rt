@@ -1,3 +1,4 @@
-// Jumper lists: their entries, the first of 12 to 14 that a list meets at a stage, and which entries are a wire's own.
+// Jumper lists: their entries, 12 to 14 on a list, 13 and 14 on one point, the entries of a wire.
 pub mod check;
+pub mod entries;
 pub mod wire;

@@ -1,6 +1,6 @@
-// Which entries of a jumper list are a wire's own.
-use crate::check::entry_count;
-use crate::check::entry_wire;
+// The entries of one wire, which stand together in an accepted list.
+use crate::entries::entry_count;
+use crate::entries::entry_wire;
 ghost use mathlib.Core.Path.{_≡_};
 ghost use Prim.Native.Nat.{ℕ, _<_, _≤_};
 ghost use Rattle.pieces.specs.Legal.{entryWire};

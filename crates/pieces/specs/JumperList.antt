@@ -26,12 +26,15 @@ after list d e =
     ltb (entryWire list d) (entryWire list e)
     || (eqb (entryWire list d) (entryWire list e) && ltb (entryPosition list d) (entryPosition list e))
 
--- entry e: 12 not after the one before; 13 no such wire, absent wire, or position outside; 14 barred
+-- position t of wire i: 13 no such wire, absent wire, or position outside; 14 barred
+unfoldable pub pointRefusal : Stage → ℕ → ℕ → ℕ → Refusal
+pointRefusal s i t place =
+    orElse (refusedIf (not (s .present i && (leb 1 t && ltb t (s .len i)))) 13 place) (refusedIf (s .barred i t) 14 place)
+
+-- entry e: 12 not after the one before; then its point
 unfoldable pub entryRefusal : Stage → List ℕ → ℕ → Refusal
 entryRefusal s list e =
-    orElse (refusedIf (not (eqb e 0 || after list (e - 1) e)) 12 e)
-    (orElse (refusedIf (not (s .present (entryWire list e) && (leb 1 (entryPosition list e) && ltb (entryPosition list e) (s .len (entryWire list e))))) 13 e)
-    (refusedIf (s .barred (entryWire list e) (entryPosition list e)) 14 e))
+    orElse (refusedIf (not (eqb e 0 || after list (e - 1) e)) 12 e) (pointRefusal s (entryWire list e) (entryPosition list e) e)
 
 -- a list: 12 length not in threes, then each entry in order
 unfoldable pub listRefusal : Stage → List ℕ → Refusal

@@ -1,5 +1,5 @@
 // The number of records: nodes less present wires, and one for each jumper.
-use lists::check::entry_count;
+use lists::entries::entry_count;
 use net::fields::is_present;
 use net::fields::node_count;
 ghost use mathlib.Core.Path.{_≡_};

@@ -1,5 +1,5 @@
 // The pass by rising wire number: it names the pieces with nodes and adds up their weights, flags and layers.
-use lists::check::entry_position;
+use lists::entries::entry_position;
 use lists::wire::entries_end;
 use net::fields::is_present;
 use net::fields::node_count;

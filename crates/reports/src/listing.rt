@@ -1,6 +1,6 @@
 // The pass that writes the records of all pieces, by rising number, then position.
 use crate::record::write_record;
-use lists::check::entry_position;
+use lists::entries::entry_position;
 use lists::wire::entries_end;
 use net::fields::is_gate;
 use net::fields::is_present;

@@ -1,11 +1,11 @@
--- `lists::check::entry_wire` meets its contract.
+-- `lists::entries::entry_wire` meets its contract.
 -- Assumes nothing.
 use Prim.Native.Nat.{_*_}
 use native.Mathlib.Omega.{arith}
 use Rattle.net.specs.Layout.{entryBytes}
 use borrow.Author.Needs.{needs}
-use Rattle.lists.proofs.check.entry_wire.Statement.{statement}
-use Rattle.lists.proofs.check.entry_wire.Tie as tie
+use Rattle.lists.proofs.entries.entry_wire.Statement.{statement}
+use Rattle.lists.proofs.entries.entry_wire.Tie as tie
 
 mul-result : tie.Need-mul-result
 mul-result c = search needs
