@@ -11,7 +11,7 @@ use lib.Dec.{ltb}
 use borrow.Author.Tests.{lt-ltb, le-ltb}
 use Rattle.laws.specs.Sum.{χ, sum}
 use Rattle.laws.specs.Sums.{sum-next, sum-next-≤}
-use Rattle.cuts.specs.Passes.{Climbed, total}
+use Rattle.cuts.specs.Passes.{Climbed, totalFewest}
 use Rattle.cuts.specs.Bounds.{total-≤}
 use Rattle.clusters.specs.Arrays.{downOf}
 use Rattle.counting.specs.Climb.{wireOf, climbingOf}
@@ -101,7 +101,7 @@ pub roots-few :
     (limit : ℕ) (cut : List Bool) (fewest : List ℕ) (anyOk : List Bool) (anyWeight count lightest : List ℕ) (hasUngated : List Bool) (ungated near : List ℕ) →
     CountedFrom (workClusters n ns ws os lo hi host fixed gates) limit cut fewest anyOk anyWeight count lightest hasUngated ungated near 0 →
     rootSum n lo fewest ≤ 2 * n
-unfolding rootSum total workClusters downOf
+unfolding rootSum totalFewest workClusters downOf
 roots-few n ns ws os lo hi host fixed gates ready limit cut fewest anyOk anyWeight count lightest hasUngated ungated near k =
     total-≤ (workClusters n ns ws os lo hi host fixed gates) limit
     (downOf cut fewest anyOk anyWeight (k .ungatedOk) (k .ungatedWeight) count lightest hasUngated ungated near)

@@ -15,7 +15,7 @@ use Rattle.cuts.specs.Cluster.{Clusters, Sound, hangs, span}
 use Rattle.net.specs.Stage.{Stage, Formed}
 use Rattle.cuts.specs.Fits.{Fits, fixedPart}
 use Rattle.cuts.specs.BridgeFits.{sum-nodes, hi-point, lo-≤-hi}
-use Rattle.cuts.specs.Passes.{Down, Closed, Climbed, Counted, anyLeft, anyCuts, ungatedLeft, ungatedCuts, belowCount, total, only-any, both, only-ungated, without-gate, within-limit, with-jumper}
+use Rattle.cuts.specs.Passes.{Down, Closed, Climbed, Counted, anyLeft, anyCuts, ungatedLeft, ungatedCuts, belowCount, totalFewest, only-any, both, only-ungated, without-gate, within-limit, with-jumper}
 
 -- the weight of cluster r's own wire between its lowest and its highest cuttable point
 abbrev pub ownSpan : Clusters → ℕ → ℕ
@@ -227,8 +227,8 @@ module _ (c : Clusters) (limit : ℕ) (d : Down) (s : Sound c) (m : ℕ) (counte
       omega arith
 
 -- the points found in all
-pub total-≤ : (c : Clusters) (limit : ℕ) (d : Down) → Sound c → Counted c limit d 0 → total c d ≤ 2 * c .nodes
-unfolding total
+pub total-≤ : (c : Clusters) (limit : ℕ) (d : Down) → Sound c → Counted c limit d 0 → totalFewest c d ≤ 2 * c .nodes
+unfolding totalFewest
 total-≤ c limit d s counted =
     let a = total-bounded c limit d s 0 counted in
     let b =

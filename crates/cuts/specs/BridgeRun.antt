@@ -15,7 +15,7 @@ use Rattle.net.specs.Stage.{Stage, Formed}
 use Rattle.pieces.specs.Piece.{Points}
 use Rattle.pieces.specs.Legal.{Legal, NoneLegal, Smallest, Rises, size, listed}
 use Rattle.cuts.specs.Cluster.{Clusters, Sound, Parts, Good}
-use Rattle.cuts.specs.Passes.{Down, Up, Run, stops, chosenEffect, total}
+use Rattle.cuts.specs.Passes.{Down, Up, Run, stops, chosenEffect, totalFewest}
 use Rattle.cuts.specs.Fits.{Fits, sourced, liveGate, pointsOf}
 use Rattle.cuts.specs.ChosenModes.{near-below}
 use Rattle.cuts.specs.ChosenGood.{chosen-good}
@@ -108,12 +108,12 @@ module _ (s : Stage) (c : Clusters) (root component : ℕ → ℕ) (formed : For
     chosen-legal =
         points-legal s c root component formed fits limit (chosenEffect c d u) (good .0) (good .1) sources-uncut
 
-    pub chosen-size : size s (pointsOf c (chosenEffect c d u)) ≡ total c d
+    pub chosen-size : size s (pointsOf c (chosenEffect c d u)) ≡ totalFewest c d
     chosen-size =
         points-size s c root component formed fits limit (chosenEffect c d u) (good .0) (good .1) (chosen-exact c limit d u sound run)
         ∙ chosen-count c limit d u sound run
 
-    pub chosen-fewest : (J : Points) → Legal s limit J → total c d ≤ size s J
+    pub chosen-fewest : (J : Points) → Legal s limit J → totalFewest c d ≤ size s J
     chosen-fewest J legal =
         let g = good-of-legal s c root component formed fits limit J legal in
         let a = fewest-points c limit d (g .0) (g .1 .0) sound (run .counted) (g .1 .1 .0) in
@@ -126,7 +126,7 @@ module _ (s : Stage) (c : Clusters) (root component : ℕ → ℕ) (formed : For
         length list ≡ entryBytes * n →
         ((e : ℕ) → suc e < n → Rises list e (suc e)) →
         ((i t : ℕ) → listed list n i t ≡ pointsOf c (chosenEffect c d u) i t) →
-        n ≡ total c d →
+        n ≡ totalFewest c d →
         Smallest s limit list n
     smallest-of-run list n whole rising same count =
         record {

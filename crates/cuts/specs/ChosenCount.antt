@@ -9,7 +9,7 @@ use borrow.Author.Tests.{eqb-true}
 use Rattle.laws.specs.Sum.{χ, sum}
 use Rattle.laws.specs.Sums.{by, and-left, and-right, χ-ap, χ-+, χ-and, χ-split, sum-ap, sum-+, sum-regroup}
 use Rattle.cuts.specs.Cluster.{Clusters, Sound, hangs, pointCount}
-use Rattle.cuts.specs.Passes.{Down, Up, Run, stops, chosenEffect, total, belowCount}
+use Rattle.cuts.specs.Passes.{Down, Up, Run, stops, chosenEffect, totalFewest, belowCount}
 use Rattle.cuts.specs.ChosenModes.{any-ok, ungated-ok, closed-any, closed-ungated, high-any, high-ungated, count-is}
 
 module _ (c : Clusters) (limit : ℕ) (d : Down) (u : Up) (s : Sound c) (run : Run c limit d u) where
@@ -57,8 +57,8 @@ module _ (c : Clusters) (limit : ℕ) (d : Down) (u : Up) (s : Sound c) (run : R
       ∙ χ-+ (c .cuttable j) (d .fewest j) (χ (stops d j) 1 + χ (u .cutHigh j) 1))
       ∙ sum-+ (c .nodes) (λ j. χ (c .cuttable j) (d .fewest j)) (λ j. χ (c .cuttable j) (χ (stops d j) 1 + χ (u .cutHigh j) 1))))
 
-  pub chosen-count : pointCount c (chosenEffect c d u) ≡ total c d
-  unfolding pointCount total
+  pub chosen-count : pointCount c (chosenEffect c d u) ≡ totalFewest c d
+  unfolding pointCount totalFewest
   chosen-count =
       let split =
       sum-ap (c .nodes)

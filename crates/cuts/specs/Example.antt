@@ -13,7 +13,7 @@ use borrow.Author.Tests.{leb-true, ltb-true}
 use Rattle.laws.specs.Sum.{sum}
 use Rattle.laws.specs.Sums.{no-both, and-left, and-right}
 use Rattle.cuts.specs.Cluster.{Clusters, Sound, Effect, Parts, Good, hangs, pointCount}
-use Rattle.cuts.specs.Passes.{Down, Up, Closed, Climbed, Chosen, Run, Largest, chosenEffect, total, anyLeft, anyCuts, only-any, both, only-ungated, without-gate, within-limit, with-jumper}
+use Rattle.cuts.specs.Passes.{Down, Up, Closed, Climbed, Chosen, Run, Largest, chosenEffect, totalFewest, anyLeft, anyCuts, only-any, both, only-ungated, without-gate, within-limit, with-jumper}
 use Rattle.cuts.specs.ChosenGood.{chosen-good}
 use Rattle.cuts.specs.ChosenCount.{chosen-count}
 use Rattle.cuts.specs.LowerCount.{fewest-points}
@@ -217,14 +217,14 @@ run =
 
 -- one jumper, on wire 2; no good set has fewer
 pub one-jumper : pointCount netJ (chosenEffect netJ downJ upJ) ≡ 1
-unfolding total sum
+unfolding totalFewest sum
 one-jumper = chosen-count netJ 20 downJ upJ sound run
 
 pub on-wire-2 : chosenEffect netJ downJ upJ .cut 2 ≡ true
 on-wire-2 = refl
 
 pub no-fewer : (e : Effect) (p : Parts) → Good netJ 20 e p → 1 ≤ pointCount netJ e
-unfolding total sum
+unfolding totalFewest sum
 no-fewer e p g = fewest-points netJ 20 downJ e p sound (run .counted) g
 
 pub good : (p : Parts) × Good netJ 20 (chosenEffect netJ downJ upJ) p
@@ -343,14 +343,14 @@ runA =
 
 -- two jumpers, at positions 1 and 12; no good set has fewer
 pub two-jumpers : pointCount netA (chosenEffect netA downA upA) ≡ 2
-unfolding total sum
+unfolding totalFewest sum
 two-jumpers = chosen-count netA 1 downA upA soundA runA
 
 pub at-both-ends : (chosenEffect netA downA upA .first 1 ≡ 1) × (chosenEffect netA downA upA .last 1 ≡ 12)
 at-both-ends = (refl, refl)
 
 pub no-fewer-than-two : (e : Effect) (p : Parts) → Good netA 1 e p → 2 ≤ pointCount netA e
-unfolding total sum
+unfolding totalFewest sum
 no-fewer-than-two e p g = fewest-points netA 1 downA e p soundA (runA .counted) g
 
 pub good-ends : (p : Parts) × Good netA 1 (chosenEffect netA downA upA) p

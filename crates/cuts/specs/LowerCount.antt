@@ -11,7 +11,7 @@ use Rattle.laws.specs.Sum.{χ, sum}
 use Rattle.laws.specs.Sums.{by, and-left, χ-yes, χ-mono, χ-and, sum-≤, sum-+, sum-tight, term-≤, down}
 use Rattle.laws.specs.Tree.{IsTree, joinedTo, tree, tree-is, joined-rising, roots-flat}
 use Rattle.cuts.specs.Cluster.{Clusters, Sound, Effect, Parts, Good, hangs, pointCount}
-use Rattle.cuts.specs.Passes.{Down, belowCount, Counted, total}
+use Rattle.cuts.specs.Passes.{Down, belowCount, Counted, totalFewest}
 use Rattle.cuts.specs.LowerLargest.{setCuts, setLeft}
 use Rattle.cuts.specs.LowerLightest.{hangs-above, lightest-≤}
 use Rattle.cuts.specs.LowerParts.{part-light}
@@ -175,8 +175,8 @@ pub fewest-points :
     Sound c →
     Counted c limit d 0 →
     Good c limit e p →
-    total c d ≤ pointCount c e
-unfolding total pointCount
+    totalFewest c d ≤ pointCount c e
+unfolding totalFewest pointCount
 fewest-points c limit d e p s k g =
     let n = c .nodes in
     let y : ℕ → ℕ = λ j. χ (c .cuttable j) (e .points j) in

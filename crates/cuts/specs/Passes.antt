@@ -120,8 +120,8 @@ pub record Counted (c : Clusters) (limit : ℕ) (d : Down) (m : ℕ) : Type 0 wh
   pub no-near : (j : ℕ) → m ≤ j → j < c .nodes → c .cuttable j ≡ false → d .near j ≡ 0
 
 -- the number of points found: over the clusters that hang on none
-unfoldable pub total : Clusters → Down → ℕ
-total c d = sum (c .nodes) (λ r. χ (not (c .cuttable r)) (d .fewest r))
+unfoldable pub totalFewest : Clusters → Down → ℕ
+totalFewest c d = sum (c .nodes) (λ r. χ (not (c .cuttable r)) (d .fewest r))
 
 -- the pass up: cluster r takes the any-option (else the ungated one); branch j is cut at its highest cuttable point
 pub record Up : Type 0 where

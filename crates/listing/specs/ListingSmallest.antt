@@ -12,7 +12,7 @@ use Rattle.laws.specs.Sums.{by, sum-ap}
 use Rattle.net.specs.Stage.{Stage, Formed}
 use Rattle.pieces.specs.Legal.{Smallest, listed}
 use Rattle.cuts.specs.Cluster.{pointCount}
-use Rattle.cuts.specs.Passes.{Run, chosenEffect, total}
+use Rattle.cuts.specs.Passes.{Run, chosenEffect, totalFewest}
 use Rattle.cuts.specs.Fits.{Fits, pointsOf}
 use Rattle.cuts.specs.ChosenModes.{near-below}
 use Rattle.cuts.specs.ChosenCount.{chosen-count}
@@ -104,7 +104,7 @@ module _ (s : Stage) (root component : ℕ → ℕ) (limit : ℕ) (lo hi host fi
 
   pub count-is-total :
       countOf (s .nodes) near cutHigh
-      ≡ total (clustersOf s lo hi host fixed gates) (downOf cutAny fewest anyOk anyWeight ungatedOk ungatedWeight count lightest hasUngated ungated near)
+      ≡ totalFewest (clustersOf s lo hi host fixed gates) (downOf cutAny fewest anyOk anyWeight ungatedOk ungatedWeight count lightest hasUngated ungated near)
   unfolding clustersOf downOf upOf pointCount
   count-is-total =
       sum-ap (s .nodes)

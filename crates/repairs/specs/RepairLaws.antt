@@ -20,7 +20,7 @@ use Rattle.net.specs.Accepted.{NetRight, formed}
 use Rattle.points.specs.Geometry.{checked-of}
 use Rattle.pieces.specs.Legal.{Smallest, NoneLegal}
 use Rattle.cuts.specs.Cluster.{Sound}
-use Rattle.cuts.specs.Passes.{Down, Counted, Run, total}
+use Rattle.cuts.specs.Passes.{Down, Counted, Run, totalFewest}
 use Rattle.cuts.specs.Fits.{Fits, freeAt}
 use Rattle.cuts.specs.Bounds.{allWeight, cluster-bounded}
 use Rattle.cuts.specs.OtherFree.{sound-free, counted-free}
@@ -136,7 +136,7 @@ module _ (ns ws os : List ℕ) (k : ℕ) (right : NetRight ns ws os) (lo hi host
           }
 
       pub planned : Planned (stageOf ns ws os k) limit hi near high points
-      unfolding clustersOf stageOf downOf total rootSum
+      unfolding clustersOf stageOf downOf totalFewest rootSum
       planned =
           record {
             smallest = smallest-list (stageOf ns ws os k) root component limit lo hi host fixed gates cut (worked .fewest) any anyWeight (worked .counted .ungatedOk) (worked .counted .ungatedWeight) (worked .count) (worked .lightest) ungatable (worked .ungated) near mode high is-formed fits run short;
