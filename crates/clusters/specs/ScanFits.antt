@@ -13,7 +13,8 @@ use Rattle.laws.specs.Sum.{χ, sum}
 use Rattle.laws.specs.Sums.{by, and-intro, and-no-right, χ-and, sum-ap, sum-+, sum-bound}
 use Rattle.net.specs.Layout.{nodeBytes}
 use Rattle.net.specs.Net.{nodeCount, nodeFlags, isGate, wireParent, wireFactor, wireLength}
-use Rattle.net.specs.Stage.{stageOf, Formed}
+use Rattle.net.specs.Stage.{stageOf}
+use Rattle.net.specs.Formed.{Formed}
 use Rattle.net.specs.Accepted.{NetRight, present-inside, present-positive}
 use Rattle.cuts.specs.Fits.{Fits, fixedPart, liveGate, sourced}
 use Rattle.cuts.specs.Bounds.{allWeight, allWeight-≤}

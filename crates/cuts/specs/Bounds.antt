@@ -12,7 +12,8 @@ use Rattle.laws.specs.Sum.{χ, sum}
 use Rattle.laws.specs.Sums.{by, no-both, and-left, and-right, and-no-right, χ-≤, χ-yes, χ-no, χ-mono, χ-+, sum-ap, sum-≤, sum-+, sum-zero, sum-swap, sum-pick′, sum-const, down}
 use Rattle.laws.specs.Tree.{tree, tree-is, joined-rising, roots-flat, tree-≤}
 use Rattle.cuts.specs.Cluster.{Clusters, Sound, hangs, span}
-use Rattle.net.specs.Stage.{Stage, Formed}
+use Rattle.net.specs.Stage.{Stage}
+use Rattle.net.specs.Formed.{Formed}
 use Rattle.cuts.specs.Fits.{Fits, fixedPart}
 use Rattle.cuts.specs.BridgeFits.{sum-nodes, hi-point, lo-≤-hi}
 use Rattle.cuts.specs.Passes.{Down, Closed, Climbed, Counted, anyLeft, anyCuts, ungatedLeft, ungatedCuts, belowCount, totalFewest, only-any, both, only-ungated, without-gate, within-limit, with-jumper}

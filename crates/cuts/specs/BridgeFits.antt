@@ -8,7 +8,8 @@ use lib.Dec.{leb, ltb}
 use borrow.Author.Tests.{leb-true, ltb-true, not-true, le-leb, lt-ltb}
 use Rattle.laws.specs.Sum.{sum}
 use Rattle.laws.specs.Sums.{by, and-left, and-right, and-intro, and-no-right, up}
-use Rattle.net.specs.Stage.{Stage, Formed}
+use Rattle.net.specs.Stage.{Stage}
+use Rattle.net.specs.Formed.{Formed}
 use Rattle.pieces.specs.Legal.{Free}
 use Rattle.cuts.specs.Cluster.{Clusters, Sound}
 use Rattle.cuts.specs.Fits.{Fits, freeAt}

@@ -9,7 +9,8 @@ use borrow.Author.Tests.{eq-eqb, eqb-true, eqb-false, ltb-true, ltb-false, not-t
 use Rattle.laws.specs.Sum.{χ, sum}
 use Rattle.laws.specs.Sums.{by, no-both, not-true-false, and-left, and-right, and-intro, and-no-left, χ-yes, χ-no, χ-≤, sum-ap, sum-≤, sum-+, sum-zero, sum-some, term-≤, two-≤, any-yes, lowest-passes, lowest-least, highest-passes, up}
 use Rattle.laws.specs.Tree.{tree, tree-is, joinedTo, joined-rising}
-use Rattle.net.specs.Stage.{Stage, Formed}
+use Rattle.net.specs.Stage.{Stage}
+use Rattle.net.specs.Formed.{Formed}
 use Rattle.pieces.specs.Piece.{Points}
 use Rattle.pieces.specs.Legal.{Legal, size}
 use Rattle.pieces.specs.Name.{cutAt, firstJumper, lastJumper, joins, lowestNode}

@@ -8,7 +8,8 @@ use lib.Dec.{eqb, ltb}
 use borrow.Author.Tests.{eq-eqb, ne-eqb, eqb-true, eqb-false, ltb-true, lt-ltb}
 use Rattle.laws.specs.Sum.{χ, sum}
 use Rattle.laws.specs.Sums.{by, no-both, not-true-false, not-false-true, and-left, and-right, and-intro, and-no-left, or-left, or-right, χ-yes, χ-no, sum-ap, sum-+, sum-zero, sum-pick, term-≤, any-yes, any-none, any-some, lowest-is, highest-is, up}
-use Rattle.net.specs.Stage.{Stage, Formed}
+use Rattle.net.specs.Stage.{Stage}
+use Rattle.net.specs.Formed.{Formed}
 use Rattle.pieces.specs.Legal.{Free, Legal, size}
 use Rattle.pieces.specs.Name.{cutAt, firstJumper, lastJumper, lowestNode}
 use Rattle.pieces.specs.Lowest.{joins-yes, absent-apart, lowestNode-up, lowestNode-stop, head-apart}

@@ -11,7 +11,8 @@ use borrow.Author.Tests.{eq-eqb, ne-eqb, eqb-true, not-true}
 use Rattle.laws.specs.Sum.{χ}
 use Rattle.laws.specs.Sums.{by, no-both, not-true-false, and-left, and-right, χ-no, sum-zero, up}
 use Rattle.net.specs.Layout.{entryBytes}
-use Rattle.net.specs.Stage.{Stage, Formed}
+use Rattle.net.specs.Stage.{Stage}
+use Rattle.net.specs.Formed.{Formed}
 use Rattle.pieces.specs.Piece.{Points}
 use Rattle.pieces.specs.Legal.{Legal, NoneLegal, Smallest, Rises, size, listed}
 use Rattle.cuts.specs.Cluster.{Clusters, Sound, Parts, Good}

@@ -8,9 +8,10 @@ use native.Mathlib.Nat.{mul-add, mul-comm}
 use lib.Dec.{eqb}
 use borrow.Author.Tests.{eq-eqb, ne-eqb, eqb-true, eqb-false, not-true}
 use Rattle.laws.specs.Sum.{χ, sum}
-use Rattle.laws.specs.Sums.{by, no-both, not-true-false, and-left, and-right, and-intro, and-no-left, and-no-right, χ-yes, χ-no, χ-zero, χ-and, sum-ap, sum-+, sum-pick, sum-regroup, any-some, lowest-none, lowest-passes, highest-passes, up}
+use Rattle.laws.specs.Sums.{by, eqb-sym, no-both, not-true-false, and-left, and-right, and-intro, and-no-left, and-no-right, χ-yes, χ-no, χ-zero, χ-and, sum-ap, sum-+, sum-pick, sum-regroup, any-some, lowest-none, lowest-passes, highest-passes, up}
 use Rattle.laws.specs.Tree.{IsTree, joinedTo, tree-flat}
-use Rattle.net.specs.Stage.{Stage, Formed}
+use Rattle.net.specs.Stage.{Stage}
+use Rattle.net.specs.Formed.{Formed}
 use Rattle.pieces.specs.Piece.{Points}
 use Rattle.pieces.specs.Legal.{Free}
 use Rattle.pieces.specs.Name.{cutAt, firstJumper, lastJumper, joins, lowestNode}
@@ -60,12 +61,6 @@ wireGives s c J root e h i =
 -- the stretch of a branch's wire between its lowest cuttable point and its first jumper
 abbrev pub ownStretch : Stage → Clusters → Points → ℕ → ℕ
 ownStretch s c J i = χ (c .cuttable i && cutAt s J i) (c .factor i * (firstJumper s J i - c .lo i))
-
-pub eqb-sym : (a b : ℕ) → eqb a b ≡ eqb b a
-eqb-sym a b =
-    by (eqb a b)
-    (λ y. y ∙ sym (eq-eqb b a (sym (eqb-true a b y))))
-    (λ z. z ∙ sym (ne-eqb b a (λ w. eqb-false a b z (sym w))))
 
 -- a longer stretch weighs as its parts
 stretch : (a b f : ℕ) → a ≤ b → b * f ≡ a * f + f * (b - a)

@@ -1,6 +1,6 @@
 -- Little-endian numbers in a list of bytes.
 -- Assumes nothing.
-use Prim.Native.Nat.{ℕ, _+_, _*_, _/_, _%_, _<_}
+use Prim.Native.Nat.{ℕ, _+_, _*_, _/_, _%_}
 use mathlib.Core.List.{List, [], _∷_}
 use lib.ListN.{getD}
 
@@ -19,7 +19,3 @@ bytes16 n = n % 256 ∷ n / 256 % 256 ∷ []
 -- the bytes of a number of 32 bits
 abbrev pub bytes32 : ℕ → List ℕ
 bytes32 n = n % 256 ∷ n / 256 % 256 ∷ n / 65536 % 256 ∷ n / 16777216 % 256 ∷ []
-
--- every element is a byte
-abbrev pub Bytes : List ℕ → Type 0
-Bytes l = (i : ℕ) → getD l i 0 < 256

@@ -1,6 +1,6 @@
 -- Laws of gathered lists: what is in them, their length, their order, and totals over them.
 -- Assumes nothing.
-use Prim.Native.Nat.{ℕ, zero, suc, _<_}
+use Prim.Native.Nat.{ℕ, zero, suc, _+_, _<_}
 use mathlib.Core.Path.{_≡_, refl, sym}
 use mathlib.Core.Bool.{Bool, true, false}
 use mathlib.Core.Logic.{⊎-elim}
@@ -9,7 +9,17 @@ use native.Mathlib.Omega.{arith}
 use lib.ListN.{length, length-append}
 use Rattle.laws.specs.Sum.{χ, sum}
 use Rattle.laws.specs.Sums.{no-both, last-or-below, sum-+, sum-zero}
-use Rattle.laws.specs.Gather.{only, gather, total, Sorted, empty, front}
+use Rattle.laws.specs.Gather.{only, gather}
+
+-- f of every entry, added
+unfoldable pub total : {A : Type 0} → (A → ℕ) → List A → ℕ
+total f [] = 0
+total f (x ∷ l) = f x + total f l
+
+-- every entry stands before all entries behind it
+pub data Sorted {A : Type 0} (Before : A → A → Type 0) : List A → Type 0 where
+  empty : Sorted Before []
+  front : {x : A} {l : List A} → ((y : A) → List·Memᴰ y l → Before x y) → Sorted Before l → Sorted Before (x ∷ l)
 
 pub length-only : {A : Type 0} (t : Bool) (x : A) → length (only t x) ≡ χ t 1
 length-only true x = refl

@@ -10,7 +10,11 @@ use lib.Dec.{lit<}
 use lib.Arith.{digits-div, digits-mod}
 use lib.ListN.{length, take, drop, getD}
 use lib.Seq.{ext-getD, drop-cons, getD-drop}
-use Rattle.laws.specs.Bytes.{le16, le32, bytes16, bytes32, Bytes}
+use Rattle.laws.specs.Bytes.{le16, le32, bytes16, bytes32}
+
+-- every element is a byte
+abbrev pub Bytes : List ℕ → Type 0
+Bytes l = (i : ℕ) → getD l i 0 < 256
 
 -- a list from a place on: its element, and the list from the next place on
 drop-here : (l : List ℕ) (i j : ℕ) → i + 1 ≡ j → i < length l → drop i l ≡ getD l i 0 ∷ drop j l

@@ -39,6 +39,13 @@ same-test true false p q = absurd (no-both (p refl) refl)
 same-test false true p q = absurd (no-both (q refl) refl)
 same-test false false p q = refl
 
+-- equality may be asked either way round
+pub eqb-sym : (a b : ℕ) → eqb a b ≡ eqb b a
+eqb-sym a b =
+    by (eqb a b)
+    (λ y. y ∙ sym (eq-eqb b a (sym (eqb-true a b y))))
+    (λ z. z ∙ sym (ne-eqb b a (λ w. eqb-false a b z (sym w))))
+
 pub and-true : (a : Bool) → (a && true) ≡ a
 and-true true = refl
 and-true false = refl

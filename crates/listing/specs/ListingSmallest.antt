@@ -8,8 +8,9 @@ use native.Mathlib.Omega.{arith}
 use lib.Dec.{ltb, eqb}
 use lib.ListN.{getD}
 use borrow.Author.Tests.{ltb-true, ltb-false, le-ltb}
-use Rattle.laws.specs.Sums.{by, sum-ap}
-use Rattle.net.specs.Stage.{Stage, Formed}
+use Rattle.laws.specs.Sums.{by, eqb-sym, sum-ap}
+use Rattle.net.specs.Stage.{Stage}
+use Rattle.net.specs.Formed.{Formed}
 use Rattle.pieces.specs.Legal.{Smallest, listed}
 use Rattle.cuts.specs.Cluster.{pointCount}
 use Rattle.cuts.specs.Passes.{Run, chosenEffect, totalFewest}
@@ -18,7 +19,6 @@ use Rattle.cuts.specs.ChosenModes.{near-below}
 use Rattle.cuts.specs.ChosenCount.{chosen-count}
 use Rattle.cuts.specs.BridgeFits.{sound-of-fits}
 use Rattle.cuts.specs.BridgeRun.{smallest-of-run}
-use Rattle.cuts.specs.BridgeWeight.{eqb-sym}
 use Rattle.clusters.specs.Arrays.{clustersOf, downOf, upOf}
 use Rattle.listing.specs.Listing.{listOf, countOf}
 use Rattle.listing.specs.ListingWriting.{length-listOf}

@@ -12,7 +12,8 @@ use borrow.Author.Tests.{ltb-true, leb-true, eqb-true, eq-eqb, not-false}
 use Rattle.laws.specs.Sum.{χ, sum, any}
 use Rattle.laws.specs.Sums.{and-left, and-right, and-intro, no-both, not-true-false, or-cases, any-yes, any-some, last-or-below}
 use Rattle.net.specs.Layout.{entryBytes}
-use Rattle.net.specs.Stage.{Stage, Formed}
+use Rattle.net.specs.Stage.{Stage}
+use Rattle.net.specs.Formed.{Formed}
 use Rattle.net.specs.Refusal.{none, met, refusedIf, firstOf}
 use Rattle.net.specs.First.{unmet-if, unmet-l, unmet-r, first-unmet}
 use Rattle.pieces.specs.Piece.{Points}

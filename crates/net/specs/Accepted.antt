@@ -1,4 +1,4 @@
--- What holds of a file whose head and pairs meet neither 2 nor 3, and of three sections that meet none of 4 to 11.
+-- When a file is accepted; what holds of a file whose head and pairs meet neither 2 nor 3, and of three sections that meet none of 4 to 11.
 -- Assumes nothing.
 use Prim.Native.Nat.{ℕ, zero, suc, _+_, _-_, _*_, _%_, _<_, _≤_}
 use mathlib.Core.Path.{_≡_, refl, ap}
@@ -13,9 +13,14 @@ use Rattle.laws.specs.Sums.{and-left, and-right, or-no-left, or-no-right}
 use Rattle.net.specs.Layout.{headBytes, nodeBytes, wireBytes, obstacleBytes, mostNodes, mostObstacles, mostLayers, mostFlags}
 use Rattle.net.specs.Net.{nodeCount, nodeX, nodeY, nodeFlags, wireParent, wireLayer, wireFactor, obstacleCount, obstacleX1, obstacleY1, obstacleX2, obstacleY2}
 use Rattle.net.specs.File.{version, pairCount, offset, extent, pairsRight}
-use Rattle.net.specs.Stage.{stageOf, Formed}
-use Rattle.net.specs.Refusal.{none, met, orElse, refusedIf, firstOf, headRefusal, pairsRefusal, sectionsRefusal, nodeRefusal, wireRefusal, obstacleRefusal, netRefusal}
+use Rattle.net.specs.Stage.{stageOf}
+use Rattle.net.specs.Formed.{Formed}
+use Rattle.net.specs.Refusal.{none, met, orElse, refusedIf, firstOf, headRefusal, pairsRefusal, sectionsRefusal, nodeRefusal, wireRefusal, obstacleRefusal, netRefusal, readRefusal}
 use Rattle.net.specs.First.{and-no, unmet-if, unmet-l, unmet-r, first-unmet}
+
+-- a net is accepted if and only if reading it alone meets none
+abbrev pub Accepted : List ℕ → Type 0
+Accepted file = readRefusal file ≡ none
 
 -- head and pairs
 pub record HeadRight (f : List ℕ) : Type 0 where

@@ -9,10 +9,10 @@ use native.Mathlib.Omega.{arith}
 use lib.Dec.{eqb}
 use borrow.Author.Tests.{lt-ltb, le-ltb, eq-eqb, ne-eqb}
 use Rattle.net.specs.Net.{nodeX, nodeY, nodeCount, obstacleCount, wireParent, wireLayer, wireFactor}
-use Rattle.net.specs.Refusal.{none, met, orElse, headRefusal, pairsRefusal, sectionsRefusal, nodeRefusal, wireRefusal, obstacleRefusal, netRefusal, readRefusal, nodesOf, wiresOf, obstaclesOf, Accepted, answer, readAnswer}
+use Rattle.net.specs.Refusal.{none, met, orElse, headRefusal, pairsRefusal, sectionsRefusal, nodeRefusal, wireRefusal, obstacleRefusal, netRefusal, readRefusal, nodesOf, wiresOf, obstaclesOf, answer, readAnswer}
 use Rattle.net.specs.First.{first-none, unmet-l, unmet-r, unmet-number, or-assoc}
 use Rattle.net.specs.Reading.{head-right, pairs-right, sections-right, node-right, obstacle-right}
-use Rattle.net.specs.Accepted.{HeadRight, Sized, WireRight, NetRight, head-right-of, net-right-of}
+use Rattle.net.specs.Accepted.{Accepted, HeadRight, Sized, WireRight, NetRight, head-right-of, net-right-of}
 
 oblique : (a b : Bool) → (a ≡ true) ⊎ (b ≡ true) → (not a && not b) ≡ false
 oblique true b h = refl

@@ -2,6 +2,7 @@ pub mod Layout
 pub mod Limits
 pub mod Net
 pub mod Stage
+pub mod Formed
 pub mod Refusal
 pub mod Call
 pub mod File

@@ -6,8 +6,8 @@ use mathlib.Core.List.{List, _++_, append-assoc}
 use native.Mathlib.Omega.{arith}
 use lib.ListN.{length, take, drop, length-take, length-drop, take-append-drop}
 use lib.Seq.{length-take-le, take-add, take-at, drop-at, take-all, drop-drop}
-use Rattle.laws.specs.Bytes.{Bytes, le32, bytes16, bytes32}
-use Rattle.laws.specs.Numbers.{bytes16-here, bytes32-here, le32-bytes32, bytes-take, bytes-drop}
+use Rattle.laws.specs.Bytes.{le32, bytes16, bytes32}
+use Rattle.laws.specs.Numbers.{Bytes, bytes16-here, bytes32-here, le32-bytes32, bytes-take, bytes-drop}
 use Rattle.net.specs.Layout.{headBytes}
 use Rattle.net.specs.File.{version, pairCount, offset, extent, stretch, headOf, fileOf}
 use Rattle.net.specs.Writing.{head-length, wires-after, obstacles-after, file-length}

@@ -1,7 +1,6 @@
 -- Document 01, "Where each refusal is met": numbers 2 to 11 and 16, which comes first, and what reading and writing answer.
 -- Assumes nothing.
 use Prim.Native.Nat.{ℕ, zero, suc, _+_, _-_, _*_, _%_}
-use mathlib.Core.Path.{_≡_}
 use mathlib.Core.Bool.{Bool, true, false, not, _&&_, _||_, cond}
 use mathlib.Core.List.{List, [], _++_}
 use lib.ListN.{length, drop}
@@ -100,10 +99,6 @@ netRefusal nodes wires obstacles =
 unfoldable pub readRefusal : List ℕ → Refusal
 readRefusal file =
     orElse (headRefusal file) (orElse (pairsRefusal file) (netRefusal (nodesOf file) (wiresOf file) (obstaclesOf file)))
-
--- a net is accepted if and only if reading it alone meets none
-abbrev pub Accepted : List ℕ → Type 0
-Accepted file = readRefusal file ≡ none
 
 -- what a call answers: a refusal with its place, or done with a count
 unfoldable pub answer : Refusal → ℕ → Answer

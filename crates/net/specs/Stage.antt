@@ -1,8 +1,7 @@
 -- A net at a stage, as document 01's "Pieces" sees it: what the definitions of pieces, legal and smallest sets are stated over.
 -- Assumes nothing.
-use Prim.Native.Nat.{ℕ, _<_}
-use mathlib.Core.Path.{_≡_}
-use mathlib.Core.Bool.{Bool, true, _&&_}
+use Prim.Native.Nat.{ℕ}
+use mathlib.Core.Bool.{Bool, _&&_}
 use mathlib.Core.List.{List}
 use lib.Dec.{leb, ltb}
 use Rattle.net.specs.Net.{nodeCount, nodeFlags, isGate, isSource, wireParent, wireLayer, wireFactor, wireLength, barred}
@@ -33,8 +32,3 @@ stageOf ns ws os k =
       source = λ i. isSource (nodeFlags ns i);
       barred = λ i t. barred ns ws os i t;
     }
-
--- what reading a net has checked of its wires: a parent is a node of lower number
-pub record Formed (s : Stage) : Type 0 where
-  pub inside : (i : ℕ) → s .present i ≡ true → i < s .nodes
-  pub below : (i : ℕ) → s .present i ≡ true → s .parent i < i

@@ -7,7 +7,8 @@ use native.Mathlib.Omega.{arith}
 use lib.Dec.{ltb}
 use borrow.Author.Tests.{ltb-true, ltb-false}
 use Rattle.laws.specs.Sums.{by}
-use Rattle.net.specs.Stage.{Stage, Formed}
+use Rattle.net.specs.Stage.{Stage}
+use Rattle.net.specs.Formed.{Formed}
 use Rattle.pieces.specs.Piece.{Points, node, a-node, Group, Piece, Harmful}
 use Rattle.pieces.specs.Legal.{Free, Legal}
 use Rattle.pieces.specs.Name.{Inside, lowestNode, named}

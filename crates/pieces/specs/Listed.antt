@@ -11,9 +11,10 @@ use lib.ListN.{length, length-append}
 use borrow.Author.Tests.{ltb-true, lt-ltb, le-ltb, eq-eqb, ne-eqb, eqb-true, eqb-false}
 use Rattle.laws.specs.Sum.{χ, sum, highest}
 use Rattle.laws.specs.Sums.{by, no-both, not-true-false, and-left, and-right, and-intro, and-no-left, and-no-right, χ-yes, χ-no, χ-ap, χ-and, sum-ap, sum-+, sum-zero, sum-const, sum-χ, sum-pick, highest-last}
-use Rattle.laws.specs.Gather.{only, total, Sorted, empty, front}
-use Rattle.laws.specs.Gathers.{length-only, mem-only, only-mem, length-gather, mem-gather, gather-mem, sorted-only, sorted-append, sorted-gather, total-ap, total-zero, total-χ, total-sum}
-use Rattle.net.specs.Stage.{Stage, Formed}
+use Rattle.laws.specs.Gather.{only}
+use Rattle.laws.specs.Gathers.{total, Sorted, empty, front, length-only, mem-only, only-mem, length-gather, mem-gather, gather-mem, sorted-only, sorted-append, sorted-gather, total-ap, total-zero, total-χ, total-sum}
+use Rattle.net.specs.Stage.{Stage}
+use Rattle.net.specs.Formed.{Formed}
 use Rattle.pieces.specs.Piece.{Points, Element, node, step, Real, a-node, a-step, Group, Piece, weightOf}
 use Rattle.pieces.specs.Legal.{size}
 use Rattle.pieces.specs.Name.{Inside, cutAt, firstJumper, lastJumper, joins, lowestNode, numberOf, positionOf, named}

@@ -6,7 +6,8 @@ use mathlib.Core.Bool.{true, false, not, cond}
 use native.Mathlib.Omega.{arith}
 use borrow.Author.Tests.{not-true}
 use Rattle.laws.specs.Sums.{by, and-left, and-right, and-intro, and-no-left, and-no-right}
-use Rattle.net.specs.Stage.{Stage, Formed}
+use Rattle.net.specs.Stage.{Stage}
+use Rattle.net.specs.Formed.{Formed}
 use Rattle.pieces.specs.Piece.{Points}
 use Rattle.pieces.specs.Name.{cutAt, joins, follow, lowestNode}
 

@@ -8,7 +8,8 @@ use lib.Dec.{leb, eqb}
 use borrow.Author.Tests.{ltb-true, leb-true, lt-ltb, le-leb, eq-eqb, eqb-true}
 use Rattle.laws.specs.Sum.{highest}
 use Rattle.laws.specs.Sums.{by, no-both, not-true-false, and-left, and-right, and-intro}
-use Rattle.net.specs.Stage.{Stage, Formed}
+use Rattle.net.specs.Stage.{Stage}
+use Rattle.net.specs.Formed.{Formed}
 use Rattle.pieces.specs.Piece.{Points, Element, node, step, Real, a-node, a-step, Touch, along, foot, head, via, Connected, touching, same, back, chain, Group, Piece}
 use Rattle.pieces.specs.Name.{Inside, firstJumper, lastJumper, lowestNode, numberOf, positionOf, isReal, named}
 use Rattle.pieces.specs.Lowest.{lowestNode-≤}

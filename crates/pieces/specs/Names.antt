@@ -8,7 +8,8 @@ use lib.Dec.{eqb}
 use borrow.Author.Tests.{ne-eqb, eqb-true, eqb-false}
 use Rattle.laws.specs.Sum.{any, highest}
 use Rattle.laws.specs.Sums.{by, no-both, highest-most}
-use Rattle.net.specs.Stage.{Stage, Formed}
+use Rattle.net.specs.Stage.{Stage}
+use Rattle.net.specs.Formed.{Formed}
 use Rattle.pieces.specs.Piece.{Points, Element, node, step, Real, a-step, Touch, along, foot, head, via, Connected, touching, same, back, chain}
 use Rattle.pieces.specs.Name.{Inside, cutAt, firstJumper, lastJumper, joins, lowestNode, numberOf, positionOf}
 use Rattle.pieces.specs.Lowest.{joins-yes, joins-present, joins-uncut, lowestNode-up, lowestNode-stop, joins-below}

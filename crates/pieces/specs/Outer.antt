@@ -11,7 +11,8 @@ use lib.Dec.{eqb}
 use borrow.Author.Tests.{eq-eqb}
 use Rattle.laws.specs.Sum.{χ, sum}
 use Rattle.laws.specs.Sums.{by, not-true-false, and-left, and-intro, and-no-left, or-left, or-right, χ-no, sum-ap, sum-≤, sum-+, sum-zero, any-yes, any-none, lowest-is, highest-is}
-use Rattle.net.specs.Stage.{Stage, Formed}
+use Rattle.net.specs.Stage.{Stage}
+use Rattle.net.specs.Formed.{Formed}
 use Rattle.pieces.specs.Piece.{Points}
 use Rattle.pieces.specs.Legal.{Legal, Smallest, size, listed}
 use Rattle.pieces.specs.Name.{Inside, cutAt, firstJumper, lastJumper, joins, follow, lowestNode}

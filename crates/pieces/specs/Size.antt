@@ -10,7 +10,8 @@ use native.Mathlib.Nat.{le-trans}
 use borrow.Author.Tests.{eqb-true, eqb-false, ne-eqb, eq-eqb}
 use Rattle.laws.specs.Sum.{χ, sum, any}
 use Rattle.laws.specs.Sums.{by, and-left, and-right, and-intro, sum-zero, sum-ap, sum-≤, sum-+, term-≤, χ-no, χ-yes, not-true-false}
-use Rattle.net.specs.Stage.{Stage, Formed}
+use Rattle.net.specs.Stage.{Stage}
+use Rattle.net.specs.Formed.{Formed}
 use Rattle.pieces.specs.Piece.{Points}
 use Rattle.pieces.specs.Legal.{Free, size, listed, entryWire, entryPosition}
 

@@ -9,7 +9,8 @@ use lib.Dec.{leb, ltb, eqb}
 use borrow.Author.Tests.{leb-true, lt-ltb, le-ltb, le-leb, lt-leb, ne-eqb}
 use Rattle.laws.specs.Sum.{χ, sum, any, highest}
 use Rattle.laws.specs.Sums.{by, not-true-false, and-true, and-false, and-left, and-right, and-intro, and-no-left, and-no-right, χ-yes, χ-no, χ-ap, χ-zero, sum-ap, sum-+, sum-zero, sum-one, sum-stretch, highest-passes, highest-none, highest-≥, highest-last}
-use Rattle.net.specs.Stage.{Stage, Formed}
+use Rattle.net.specs.Stage.{Stage}
+use Rattle.net.specs.Formed.{Formed}
 use Rattle.pieces.specs.Piece.{Points, Element, step, Real, a-step, Group, weightOf}
 use Rattle.pieces.specs.Name.{Inside, cutAt, firstJumper, lastJumper, lowestNode, stepNumber, stepPosition, named}
 use Rattle.pieces.specs.Weight.{wireAdds, nodeWeight}

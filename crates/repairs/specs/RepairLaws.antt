@@ -15,7 +15,8 @@ use Rattle.net.specs.declared.Answer.{Answer}
 use Rattle.net.specs.Layout.{entryBytes}
 use Rattle.net.specs.Refusal.{none, refusal, answer}
 use Rattle.net.specs.Net.{nodeCount, wireLength, barred}
-use Rattle.net.specs.Stage.{Stage, Formed, stageOf}
+use Rattle.net.specs.Stage.{Stage, stageOf}
+use Rattle.net.specs.Formed.{Formed}
 use Rattle.net.specs.Accepted.{NetRight, formed}
 use Rattle.points.specs.Geometry.{checked-of}
 use Rattle.pieces.specs.Legal.{Smallest, NoneLegal}

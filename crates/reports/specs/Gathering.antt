@@ -15,7 +15,8 @@ use Rattle.laws.specs.Sums.{by, and-no-right, sum-next, any-next, and-comm, or-
 use Rattle.laws.specs.Masks.{mask, mask-ap, mask-test, mask-or}
 use Rattle.net.specs.Layout.{mostLayers}
 use Rattle.net.specs.Net.{isGate, isSource}
-use Rattle.net.specs.Stage.{Stage, Formed}
+use Rattle.net.specs.Stage.{Stage}
+use Rattle.net.specs.Formed.{Formed}
 use Rattle.pieces.specs.Piece.{Points}
 use Rattle.pieces.specs.Name.{Inside, cutAt, firstJumper, lastJumper, lowestNode}
 use Rattle.pieces.specs.Weight.{wireAdds}

@@ -13,7 +13,8 @@ use Rattle.laws.specs.Sum.{χ}
 use Rattle.laws.specs.Sums.{by, no-both, and-left, χ-≤}
 use Rattle.net.specs.Layout.{wireBytes, mostNodes, mostLayers}
 use Rattle.net.specs.Net.{nodeCount, nodeFlags, wireParent, wireLayer, wireFactor, wireLength}
-use Rattle.net.specs.Stage.{stageOf, Formed}
+use Rattle.net.specs.Stage.{stageOf}
+use Rattle.net.specs.Formed.{Formed}
 use Rattle.points.specs.Cuttable.{Checked}
 use Rattle.points.specs.Geometry.{checked-of}
 use Rattle.net.specs.Accepted.{formed, present-positive, present-inside}

@@ -13,7 +13,8 @@ use Rattle.laws.specs.Sums.{and-left, and-right, and-intro, and-no-right, any-y
 use Rattle.laws.specs.Masks.{mask-ap}
 use Rattle.laws.specs.Gather.{only, gather}
 use Rattle.net.specs.Layout.{mostLayers}
-use Rattle.net.specs.Stage.{Stage, Formed}
+use Rattle.net.specs.Stage.{Stage}
+use Rattle.net.specs.Formed.{Formed}
 use Rattle.pieces.specs.Piece.{Points, node, step, a-step}
 use Rattle.pieces.specs.Name.{Inside, firstJumper, lastJumper, named}
 use Rattle.pieces.specs.Legal.{entryPosition, listed}

@@ -5,8 +5,8 @@ use mathlib.Core.Path.{_≡_}
 use mathlib.Core.List.{List}
 use native.Mathlib.Omega.{arith}
 use native.Mathlib.Nat.{mul-le-mul}
-use Rattle.laws.specs.Bytes.{Bytes, le32}
-use Rattle.laws.specs.Numbers.{le32-bytes32}
+use Rattle.laws.specs.Bytes.{le32}
+use Rattle.laws.specs.Numbers.{Bytes, le32-bytes32}
 use Rattle.laws.specs.Sum.{χ, sum}
 use Rattle.laws.specs.Sums.{by, χ-≤, sum-bound}
 use Rattle.net.specs.Layout.{wireBytes}

@@ -8,7 +8,8 @@ use native.Mathlib.Omega.{arith}
 use borrow.Author.Tests.{eqb-true, eqb-false, eq-eqb, le-ltb, ltb-false, not-true}
 use Rattle.laws.specs.Sum.{any}
 use Rattle.laws.specs.Sums.{by, no-both, and-left, and-right, and-intro, any-none, any-no, any-yes, any-some, not-true-false, not-false-true}
-use Rattle.net.specs.Stage.{Stage, Formed}
+use Rattle.net.specs.Stage.{Stage}
+use Rattle.net.specs.Formed.{Formed}
 use Rattle.pieces.specs.Piece.{Points}
 use Rattle.pieces.specs.Legal.{Free, Legal, NoneLegal, size}
 use Rattle.pieces.specs.Name.{lowestNode}

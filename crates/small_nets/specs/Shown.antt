@@ -10,7 +10,8 @@ use borrow.Author.Tests.{eq-eqb, le-leb}
 use Rattle.laws.specs.Sum.{χ, sum, any, lowest, highest}
 use Rattle.laws.specs.Sums.{by, no-both, and-intro, not-true-false, term-≤, χ-yes}
 use Rattle.net.specs.Net.{wireLength, pointX, pointY, holds, barred}
-use Rattle.net.specs.Stage.{Stage, Formed, stageOf}
+use Rattle.net.specs.Stage.{Stage, stageOf}
+use Rattle.net.specs.Formed.{Formed}
 use Rattle.net.specs.Refusal.{none, netRefusal, sectionsRefusal, nodeRefusal, wireRefusal, obstacleRefusal, firstOf}
 use Rattle.net.specs.Accepted.{net-right, formed}
 use Rattle.pieces.specs.Piece.{Points}
