@@ -14,7 +14,7 @@ use Rattle.net.specs.declared.Refusal.{Refusal}
 use Rattle.net.specs.Net.{nodeCount, wireLayer, wireLength, barred}
 use Rattle.net.specs.Stage.{Stage, stageOf}
 use Rattle.net.specs.Refusal.{none, refusal, met, refusedIf, firstOf, netRefusal}
-use Rattle.net.specs.First.{none-if, none-or}
+use Rattle.net.specs.First.{none-if, none-or, first-none, first-unmet, unmet-number}
 use Rattle.points.specs.Cuttable.{Checked}
 use Rattle.net.specs.Accepted.{net-right}
 use Rattle.points.specs.Geometry.{checked-of}
@@ -142,6 +142,17 @@ module _ (s : Stage) (list : List ℕ) where
   entry-none e =
       none-or (refusedIf (not (eqb e 0 || after list (e - 1) e)) 12 e) (pointRefusal s (entryWire list e) (entryPosition list e) e)
       (point-none (entryWire list e) (entryPosition list e) e)
+
+  -- a list whose refusal has number 0 meets none
+  pub list-none : listRefusal s list .number ≡ 0 → listRefusal s list ≡ none
+  unfolding listRefusal
+  list-none e =
+      let r12 = refusedIf (not (eqb (length list % entryBytes) 0)) 12 0 in
+      let each = firstOf (entryCount list) (λ e. entryRefusal s list e) in
+      sym
+      (none-or r12 each
+      (λ u. first-none (λ e. entryRefusal s list e) (entryCount list) (λ i p. entry-none i (first-unmet (λ e. entryRefusal s list e) (entryCount list) u i p)))
+      (unmet-number (listRefusal s list) e))
 
   module _ (a : length list % entryBytes ≡ 0) where
     pub list-entries : {r : Refusal} → r ≡ firstOf (entryCount list) (λ e. entryRefusal s list e) → r ≡ listRefusal s list

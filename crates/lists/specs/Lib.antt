@@ -1,4 +1,5 @@
 pub mod EntriesChecked
 pub mod Entries
 pub mod EntriesOfWire
+pub mod EntriesFew
 pub mod Excluded

@@ -14,10 +14,10 @@ use Rattle.pieces.specs.JumperList.{entryCount, setOf}
 use Rattle.pieces.specs.Listed.{number-of-names}
 use Rattle.reports.specs.Promise.{pieceCount}
 use Rattle.lists.specs.Entries.{list-set-free, list-set-size}
-use Rattle.reports.specs.Judged.{Judged}
-use Rattle.reports.specs.Judging.{formed-of, inside-of, present-is}
+use Rattle.reports.specs.ListRight.{ListRight}
+use Rattle.reports.specs.ListRights.{formed-of, inside-of, present-is}
 
-pub count-is : (ns ws list os : List ℕ) (k present : ℕ) → Judged ns ws k list os →
+pub count-is : (ns ws list os : List ℕ) (k present : ℕ) → ListRight ns ws k list os →
     present ≡ sum (nodeCount ns) (λ i. χ (ltb 0 i && leb (wireLayer ws i) k) 1) →
     nodeCount ns - present + entryCount list ≡ pieceCount (stageOf ns ws os k) list
 unfolding stageOf

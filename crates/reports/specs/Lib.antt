@@ -1,10 +1,10 @@
 pub mod Gathered
 pub mod NodeRecords
 pub mod Gathering
-pub mod Judged
-pub mod Judging
+pub mod ListRight
+pub mod ListRights
 pub mod Reached
-pub mod Listing
+pub mod Writing
 pub mod Counting
 pub mod WeightFits
 pub mod Reporting

@@ -17,27 +17,21 @@ use Rattle.pieces.specs.Report.{pieceNames, reportOf}
 abbrev pub pieceCount : Stage → List ℕ → ℕ
 pieceCount s list = length (pieceNames s (setOf list))
 
--- on an accepted net at a stage: 12 to 14 on the list, then 16
-unfoldable pub piecesRefusal : Stage → List ℕ → ℕ → Refusal
-piecesRefusal s list lent = orElse (listRefusal s list) (lentRefusal (recordBytes * pieceCount s list) lent)
-
-unfoldable pub piecesAnswer : Stage → List ℕ → ℕ → Answer
-piecesAnswer s list lent = answer (piecesRefusal s list lent) (pieceCount s list)
-
--- what the lent buffer then holds: the records and behind them what was there, or after a refusal what was there
+-- what a buffer holds when the records of all pieces are written to it: these, and behind them what was there
 unfoldable pub piecesBuffer : Stage → ℕ → List ℕ → List ℕ → List ℕ
-piecesBuffer s limit list out =
-    cond (met (piecesRefusal s list (length out))) out (reportOf s limit (setOf list) ++ drop (recordBytes * pieceCount s list) out)
+piecesBuffer s limit list out = reportOf s limit (setOf list) ++ drop (recordBytes * pieceCount s list) out
 
--- report: 1, 2 to 11, 12 to 14, 16
+-- report: 1 and 2 to 11, 12 to 14, 16
 unfoldable pub reportRefusal : ℕ → List ℕ → List ℕ → ℕ → Refusal
-reportRefusal stage file list lent = orElse (callRefusal stage file) (piecesRefusal (netAt file stage) list lent)
+reportRefusal stage file list lent =
+    orElse (callRefusal stage file)
+    (orElse (listRefusal (netAt file stage) list) (lentRefusal (recordBytes * pieceCount (netAt file stage) list) lent))
 
 -- the count is that of the records
 unfoldable pub reportAnswer : ℕ → List ℕ → List ℕ → ℕ → Answer
 reportAnswer stage file list lent = answer (reportRefusal stage file list lent) (pieceCount (netAt file stage) list)
 
+-- what the lent buffer then holds: the records and behind them what was there, or after a refusal what was there
 unfoldable pub reportBuffer : ℕ → ℕ → List ℕ → List ℕ → List ℕ → List ℕ
 reportBuffer stage limit file list out =
-    cond (met (reportRefusal stage file list (length out))) out
-    (reportOf (netAt file stage) limit (setOf list) ++ drop (recordBytes * pieceCount (netAt file stage) list) out)
+    cond (met (reportRefusal stage file list (length out))) out (piecesBuffer (netAt file stage) limit list out)

@@ -14,8 +14,8 @@ use Rattle.pieces.specs.Legal.{entryWire}
 use Rattle.pieces.specs.JumperList.{entryCount}
 use Rattle.lists.specs.EntriesOfWire.{OfWire, of-wire, of-wire-next}
 use Rattle.reports.specs.Gathered.{weightBelow, flagsBelow, layersBelow}
-use Rattle.reports.specs.Judged.{Accepted, GatheredBelow, AtMost}
-use Rattle.reports.specs.Judging.{formed-of, free-of, rising-of}
+use Rattle.reports.specs.ListRight.{ListAccepted, GatheredBelow, AtMost}
+use Rattle.reports.specs.ListRights.{formed-of, free-of, rising-of}
 
 -- the entries before e are those of the wires below i
 pub record Reached (list : List ℕ) (i e : ℕ) : Type 0 where
@@ -27,7 +27,7 @@ pub reached-none : (list : List ℕ) → Reached list 0 0
 reached-none list =
     record { inside = omega arith; before = λ d p. absurd (native.Mathlib.Nat.lt-irrefl 0 (omega arith)); behind = λ d p q. omega arith }
 
-module _ (ns ws list : List ℕ) (k : ℕ) (accepted : Accepted ns ws k list) where
+module _ (ns ws list : List ℕ) (k : ℕ) (accepted : ListAccepted ns ws k list) where
   -- the entries of the next wire
   pub reached-wire : (i e end : ℕ) → Reached list i e → e ≤ end → end ≤ entryCount list → ((d : ℕ) → e ≤ d → d < end → entryWire list d ≡ i) →
       (end < entryCount list → entryWire list end ≡ i → ⊥) → OfWire list (entryCount list) i e end

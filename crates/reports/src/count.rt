@@ -5,16 +5,16 @@ use net::fields::node_count;
 ghost use mathlib.Core.Path.{_≡_};
 ghost use mathlib.Core.List.{List};
 ghost use mathlib.Core.Bool.{_&&_};
-ghost use Prim.Native.Nat.{ℕ, _*_, _+_, _<_, _≤_};
+ghost use Prim.Native.Nat.{ℕ, _*_, _+_, _≤_};
 ghost use lib.ListN.{length};
 ghost use lib.Dec.{ltb, leb};
 ghost use Rattle.laws.specs.Sum.{χ, sum};
-ghost use Rattle.net.specs.Layout.{wireBytes};
-ghost use Rattle.net.specs.Net.{nodeCount, wireLayer};
+ghost use Rattle.net.specs.Layout.{wireBytes, mostNodes};
+ghost use Rattle.net.specs.Limits.{lengthBound};
+ghost use Rattle.net.specs.Net.{wireLayer};
 ghost use Rattle.net.specs.Stage.{stageOf};
-ghost use Rattle.pieces.specs.JumperList.{entryCount};
 ghost use Rattle.reports.specs.Promise.{pieceCount};
-ghost use Rattle.reports.specs.Judged.{Judged, Accepted};
+ghost use Rattle.reports.specs.ListRight.{ListRight, ListAccepted};
 
 // The wires that the stage has, of those below n.
 fn present_count(stage: u8, wires: &[u8], n: usize) -> usize
@@ -34,10 +34,9 @@ fn present_count(stage: u8, wires: &[u8], n: usize) -> usize
 
 // The number of pieces.
 pub fn piece_count(stage: u8, nodes: &[u8], wires: &[u8], jumpers: &[u8]) -> usize
-    requires { ⌜ Accepted (now nodes) (now wires) stage (now jumpers) ⌝ }
-    requires { ⌜ entryCount (now jumpers) ≤ nodeCount (now nodes) * 65536 ⌝ }
-    ensures { λ r. ⌜ ((os : List ℕ) → Judged (now (nodes .entry)) (now (wires .entry)) stage (now (jumpers .entry)) os → r ≡ pieceCount (stageOf (now (nodes .entry)) (now (wires .entry)) os stage) (now (jumpers .entry)))
-        × (r < 33554432) ⌝ }
+    requires { ⌜ ListAccepted (now nodes) (now wires) stage (now jumpers) ⌝ }
+    ensures { λ r. ⌜ ((os : List ℕ) → ListRight (now (nodes .entry)) (now (wires .entry)) stage (now (jumpers .entry)) os → r ≡ pieceCount (stageOf (now (nodes .entry)) (now (wires .entry)) os stage) (now (jumpers .entry)))
+        × (r ≤ mostNodes * (lengthBound + 1)) ⌝ }
 {
     let n = node_count(nodes);
     n - present_count(stage, wires, n) + entry_count(jumpers)

@@ -11,11 +11,12 @@ use points::length_of;
 ghost use Prim.Native.Nat.{_+_, _*_, _^_, _<_, _≤_};
 ghost use lib.ListN.{length, getD};
 ghost use Rattle.net.specs.Layout.{mostLayers};
+ghost use Rattle.net.specs.Limits.{wireWeightBound};
 ghost use Rattle.net.specs.Net.{nodeCount};
 ghost use Rattle.pieces.specs.JumperList.{entryCount};
 ghost use Rattle.lists.specs.EntriesOfWire.{OfWire};
 ghost use Rattle.reports.specs.Gathering.{Named, Added};
-ghost use Rattle.reports.specs.Judged.{Accepted, GatheredBelow, Roomy, AtMost};
+ghost use Rattle.reports.specs.ListRight.{ListAccepted, GatheredBelow, Roomy, AtMost};
 
 // Node i is in the piece whose lowest node is h: its flags are joined to that piece's.
 fn name_node(lowest: &mut [usize], flags: &mut [u8], i: usize, h: usize, of_node: u8)
@@ -52,12 +53,12 @@ fn step(
     flags: &mut [u8],
     layers: &mut [u16],
 )
-    requires { ⌜ Accepted (now nodes) (now wires) stage (now jumpers) ⌝ }
+    requires { ⌜ ListAccepted (now nodes) (now wires) stage (now jumpers) ⌝ }
     requires { ⌜ (i < nodeCount (now nodes)) × OfWire (now jumpers) (entryCount (now jumpers)) i e end ⌝ }
-    requires { ⌜ Roomy (now nodes) (now lowest) (now weight) (now flags) (now layers) × AtMost (i * 33554432) (now weight) ⌝ }
+    requires { ⌜ Roomy (nodeCount (now nodes)) (now lowest) (now weight) (now flags) (now layers) × AtMost (i * (2 * wireWeightBound)) (now weight) ⌝ }
     requires { ⌜ GatheredBelow (now nodes) (now wires) stage (now jumpers) i (now lowest) (now weight) (now flags) (now layers) ⌝ }
     ensures { λ r. ⌜ GatheredBelow (now (nodes .entry)) (now (wires .entry)) stage (now (jumpers .entry)) (i + 1) (now (lowest .exit)) (now (weight .exit)) (now (flags .exit)) (now (layers .exit))
-        × AtMost ((i + 1) * 33554432) (now (weight .exit)) × (end ≤ e + 65536) ⌝ }
+        × AtMost ((i + 1) * (2 * wireWeightBound)) (now (weight .exit)) ⌝ }
 {
     let of_node = node_flags(nodes, i);
     if !is_present(stage, wires, i) {
@@ -91,11 +92,10 @@ pub fn gather(
     flags: &mut [u8],
     layers: &mut [u16],
 )
-    requires { ⌜ Accepted (now nodes) (now wires) stage (now jumpers) ⌝ }
-    requires { ⌜ Roomy (now nodes) (now lowest) (now weight) (now flags) (now layers) ⌝ }
+    requires { ⌜ ListAccepted (now nodes) (now wires) stage (now jumpers) ⌝ }
+    requires { ⌜ Roomy (nodeCount (now nodes)) (now lowest) (now weight) (now flags) (now layers) ⌝ }
     requires { ⌜ AtMost 0 (now weight) × AtMost 0 (now flags) × AtMost 0 (now layers) ⌝ }
-    ensures { λ r. ⌜ GatheredBelow (now (nodes .entry)) (now (wires .entry)) stage (now (jumpers .entry)) (nodeCount (now (nodes .entry))) (now (lowest .exit)) (now (weight .exit)) (now (flags .exit)) (now (layers .exit))
-        × (entryCount (now (jumpers .entry)) ≤ nodeCount (now (nodes .entry)) * 65536) ⌝ }
+    ensures { λ r. ⌜ GatheredBelow (now (nodes .entry)) (now (wires .entry)) stage (now (jumpers .entry)) (nodeCount (now (nodes .entry))) (now (lowest .exit)) (now (weight .exit)) (now (flags .exit)) (now (layers .exit)) ⌝ }
 {
     let count = node_count(nodes);
     let mut e = 0;

@@ -1,6 +1,6 @@
-// The piece report: the jumper list checked, the pieces gathered wire by wire, their records written.
-mod count;
+// The piece report: what the call tries in order, then its work over an accepted net with an accepted jumper list.
+pub mod count;
 mod gather;
-mod listing;
 mod record;
 pub mod report;
+mod write;

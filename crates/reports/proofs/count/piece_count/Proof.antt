@@ -2,6 +2,8 @@
 -- Assumes nothing.
 use native.Mathlib.Omega.{arith}
 use borrow.Author.Needs.{needs}
+use Rattle.laws.specs.Numbers.{Bytes}
+use Rattle.lists.specs.EntriesFew.{entries-few}
 use Rattle.reports.specs.Counting.{count-is}
 use Rattle.reports.proofs.count.piece_count.Statement.{statement}
 use Rattle.reports.proofs.count.piece_count.Tie as tie
@@ -25,11 +27,13 @@ returns : tie.Need-returns
 returns c =
     let s = c .before .before .before .before .before .before in
     let n = c .before .before .node-count .ensures in
-    let e = c .entry-count .ensures in (
+    let e = c .entry-count .ensures in
+    let nodes : Bytes (s .args .nodes .now) = λ j. omega (arith, c .before .before .before .before .before .shared-slice-known .given j) in
+    let few = entries-few (s .args .nodes .now) (s .args .wires .now) (s .pre .0) (s .args .stage) (s .args .jumpers .now) (s .pre .1 .right) nodes (s .pre .1 .listed) in (
       λ os j.
           rw (e, n)
           (count-is (s .args .nodes .now) (s .args .wires .now) (s .args .jumpers .now) os (s .args .stage) (c .before .present-count .result) j (rw n at (c .before .present-count .ensures .0))),
-      omega (arith, s .pre .0 .1 .right .sized .few-nodes, s .pre .1),
+      omega (arith, s .pre .1 .right .sized .few-nodes, few),
     )
 
 pub piece-count-spec : {M : Type 1} → statement M

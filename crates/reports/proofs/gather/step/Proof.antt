@@ -6,7 +6,8 @@ use native.Mathlib.Omega.{arith}
 use lib.ListN.{getD}
 use borrow.Author.Tests.{not-true, not-false}
 use borrow.Author.Needs.{needs}
-use Rattle.reports.specs.Judging.{step-absent, step-joined, step-cut, stored-of, absent-none, ready, above-below, product-small, added-small, at-more}
+use Rattle.net.specs.Limits.{lengthBound, wireWeightBound}
+use Rattle.reports.specs.ListRights.{step-absent, step-joined, step-cut, stored-of, ready, above-below, product-small, added-small, at-more}
 use Rattle.reports.proofs.gather.step.Statement.{statement}
 use Rattle.reports.proofs.gather.step.Tie as tie
 
@@ -31,8 +32,7 @@ returns c =
     let z = sym (c .before .before .before .before .before .before .before .before .is-present .ensures) ∙ not-true _ (c .before .before .before .before .before .before .before .if1 .taken) in (
       λ os j.
           step-absent (s .args .nodes .now) (s .args .wires .now) (s .args .jumpers .now) os (s .args .stage) j (s .args .i) (s .pre .1 .0 .0) (s .pre .1 .1 .1 os j) (c .before .before .before .before .before .before .before .before .before .node-flags .result) (c .before .before .before .before .before .before .before .before .before .node-flags .ensures) z (c .before .before .before .before .name-node .ensures),
-      at-more (s .args .i * 33554432) ((s .args .i + 1) * 33554432) (s .args .weight .now) (omega arith) (s .pre .1 .1 .0 .1),
-      omega (arith, absent-none (s .args .nodes .now) (s .args .wires .now) (s .args .jumpers .now) (s .args .stage) (s .pre .0) (s .args .i) (s .pre .1 .0 .0) (s .args .e) (s .args .end) (s .pre .1 .0 .1) z),
+      at-more (s .args .i * (2 * wireWeightBound)) ((s .args .i + 1) * (2 * wireWeightBound)) (s .args .weight .now) (omega arith) (s .pre .1 .1 .0 .1),
     )
 
 wire-parent-requires : tie.Need-wire-parent-requires
@@ -81,9 +81,8 @@ returns-2 c =
     let s = c .before .before .before .before .before .before .before .before .before .before .before .before .before .before .before .before .before .before .before .before .before .before .before .before .before .before .before .before .before .before in
     let len = c .before .before .before .before .before .before .before .before .before .before .before .before .before .before .before .before .before .length-of .ensures in (
       λ os j. step-joined (s .args .nodes .now) (s .args .wires .now) (s .args .jumpers .now) os (s .args .stage) j (s .args .i) (s .pre .1 .0 .0) (s .pre .1 .1 .1 os j) (s .args .e) (s .args .end) (s .pre .1 .0 .1) (sym (c .before .before .before .before .before .before .before .before .before .before .before .before .before .before .before .before .before .before .before .before .before .is-present .ensures) ∙ not-false _ (c .before .before .before .before .before .before .before .before .before .before .before .before .before .before .before .before .before .before .before .before .if1 .left)) (getD (s .args .lowest .now) (c .before .before .before .before .before .before .before .before .before .before .before .before .before .before .before .before .before .before .before .wire-parent .result) 0) (c .before .before .before .before .before .before .before .before .before .before .before .before .before .before .before .before .before .before .before .before .before .before .node-flags .result) (c .before .before .before .before .before .before .before .before .before .before .before .before .before .before .before .before .before .length-of .result) (c .before .before .before .before .before .before .before .before .before .before .before .before .before .before .before .before .wire-factor .result) (c .before .before .before .before .before .before .before .before .before .before .before .before .before .before .before .wire-layer .result) (rw (c .before .before .before .before .before .before .before .before .before .before .before .before .before .before .before .before .before .before .before .wire-parent .ensures)) (c .before .before .before .before .before .before .before .before .before .before .before .before .before .before .before .before .before .before .before .before .before .before .node-flags .ensures) (c .before .before .before .before .before .before .before .before .before .before .before .before .before .before .before .before .before .length-of .ensures .0) (c .before .before .before .before .before .before .before .before .before .before .before .before .before .before .before .before .wire-factor .ensures) (c .before .before .before .before .before .before .before .before .before .before .before .before .before .before .before .wire-layer .ensures) (c .before .before .before .before .before .before .before .before .before .before .before .before .before .before .if2 .taken) (c .before .before .before .before .before .before .before .before .before .before .before .name-node2 .ensures) (c .before .before .before .before .add-steps .ensures),
-      at-more (s .args .i * 33554432 + 16777216) ((s .args .i + 1) * 33554432) (c .before .before .before .before .add-steps .last .0) (omega arith)
-          (added-small (s .args .i * 33554432) _ (c .before .before .before .before .before .before .before .before .before .before .before .before .before .before .before .before .before .length-of .result) (c .before .before .before .before .before .before .before .before .before .before .before .before .before .before .before .before .wire-factor .result) (c .before .before .before .before .before .before .before .before .before .before .before .before .before .before .before .wire-layer .result) (s .pre .1 .1 .0 .1) (c .before .before .before .before .add-steps .ensures) (len .1) (omega arith)),
-      omega arith,
+      at-more (s .args .i * (2 * wireWeightBound) + wireWeightBound) ((s .args .i + 1) * (2 * wireWeightBound)) (c .before .before .before .before .add-steps .last .0) (omega arith)
+          (added-small (s .args .i * (2 * wireWeightBound)) _ (c .before .before .before .before .before .before .before .before .before .before .before .before .before .before .before .before .before .length-of .result) (c .before .before .before .before .before .before .before .before .before .before .before .before .before .before .before .before .wire-factor .result) (c .before .before .before .before .before .before .before .before .before .before .before .before .before .before .before .wire-layer .result) (s .pre .1 .1 .0 .1) (c .before .before .before .before .add-steps .ensures) (len .1) (omega arith)),
     )
 
 name-node-requires-3 : tie.Need-name-node-requires-3
@@ -104,7 +103,7 @@ add-steps-requires-2 c κs =
     let r = ready (s .args .nodes .now) (s .args .wires .now) (s .args .jumpers .now) (s .args .stage) (s .pre .0) (s .args .i) (s .pre .1 .0 .0) (s .args .e) (s .args .end) (s .pre .1 .0 .1) (sym (c .before .before .before .before .before .before .before .before .before .before .before .before .before .before .before .before .before .before .is-present .ensures) ∙ not-false _ (c .before .before .before .before .before .before .before .before .before .before .before .before .before .before .before .before .before .if1 .left)) in
     let m = s .pre .1 .1 .0 .0 in
     let len = c .before .before .before .before .before .before .before .before .before .before .before .before .before .before .length-of .ensures in
-    let first : c .before .before .before .entry-position .result < 65536 = omega (arith, r .first (omega (arith, s .pre .1 .0 .1 .ordered)), len .0, len .1, c .before .before .before .entry-position .ensures) in
+    let first : c .before .before .before .entry-position .result < lengthBound = omega (arith, r .first (omega (arith, s .pre .1 .0 .1 .ordered)), len .0, len .1, c .before .before .before .entry-position .ensures) in
     ((omega (arith, m .weights, s .pre .1 .0 .0), omega (arith, m .layered, s .pre .1 .0 .0), omega (arith, r .low, c .before .before .before .before .before .before .before .before .before .before .before .before .wire-layer .ensures), omega (arith, r .high, c .before .before .before .before .before .before .before .before .before .before .before .before .wire-layer .ensures)), omega (arith, r .some-node, s .pre .1 .1 .0 .1 (s .args .i), product-small (c .before .before .before .entry-position .result) (c .before .before .before .before .before .before .before .before .before .before .before .before .before .wire-factor .result) (first) (omega arith)))
 
 sub-add-steps : tie.Need-sub-add-steps
@@ -117,8 +116,8 @@ add-steps-requires-3 c κs =
     let ab : getD (s .args .lowest .now) (c .before .before .before .before .before .before .before .before .before .before .before .before .before .before .before .before .before .before .before .before .before .before .before .wire-parent .result) 0 < s .args .i = rw (c .before .before .before .before .before .before .before .before .before .before .before .before .before .before .before .before .before .before .before .before .before .before .before .wire-parent .ensures) (above-below (s .args .nodes .now) (s .args .wires .now) (s .args .jumpers .now) (s .args .stage) (s .pre .0) (s .args .i) (s .pre .1 .0 .0) (s .args .e) (s .args .end) (s .pre .1 .0 .1) (s .pre .1 .1 .1) (sym (c .before .before .before .before .before .before .before .before .before .before .before .before .before .before .before .before .before .before .before .before .before .before .before .before .before .is-present .ensures) ∙ not-false _ (c .before .before .before .before .before .before .before .before .before .before .before .before .before .before .before .before .before .before .before .before .before .before .before .before .if1 .left))) in
     let m = s .pre .1 .1 .0 .0 in
     let len = c .before .before .before .before .before .before .before .before .before .before .before .before .before .before .before .before .before .before .before .before .before .length-of .ensures in
-    let first : c .before .before .before .before .before .before .before .before .before .before .entry-position .result < 65536 = omega (arith, r .first (omega (arith, s .pre .1 .0 .1 .ordered, c .before .before .before .before .before .before .before .before .before .before .before .before .before .before .before .before .before .before .if2 .left)), len .0, len .1, c .before .before .before .before .before .before .before .before .before .before .entry-position .ensures) in
-    let w = added-small (s .args .i * 33554432) (s .args .i) (c .before .before .before .before .before .before .before .before .before .before .entry-position .result) (c .before .before .before .before .before .before .before .before .before .before .before .before .before .before .before .before .before .before .before .before .wire-factor .result) (c .before .before .before .before .before .before .before .before .before .before .before .before .before .before .before .before .before .before .before .wire-layer .result) (s .pre .1 .1 .0 .1) (c .before .before .before .before .before .before .add-steps2 .ensures) first (omega (arith, c .before .before .before .before .before .before .before .before .before .before .before .before .before .before .before .before .before .before .before .before .wire-factor .ok)) in
+    let first : c .before .before .before .before .before .before .before .before .before .before .entry-position .result < lengthBound = omega (arith, r .first (omega (arith, s .pre .1 .0 .1 .ordered, c .before .before .before .before .before .before .before .before .before .before .before .before .before .before .before .before .before .before .if2 .left)), len .0, len .1, c .before .before .before .before .before .before .before .before .before .before .entry-position .ensures) in
+    let w = added-small (s .args .i * (2 * wireWeightBound)) (s .args .i) (c .before .before .before .before .before .before .before .before .before .before .entry-position .result) (c .before .before .before .before .before .before .before .before .before .before .before .before .before .before .before .before .before .before .before .before .wire-factor .result) (c .before .before .before .before .before .before .before .before .before .before .before .before .before .before .before .before .before .before .before .wire-layer .result) (s .pre .1 .1 .0 .1) (c .before .before .before .before .before .before .add-steps2 .ensures) first (omega (arith, c .before .before .before .before .before .before .before .before .before .before .before .before .before .before .before .before .before .before .before .before .wire-factor .ok)) in
     ((omega (arith, m .weights, s .pre .1 .0 .0, c .before .before .before .before .before .before .add-steps2 .kept .0), omega (arith, m .layered, s .pre .1 .0 .0, c .before .before .before .before .before .before .add-steps2 .kept .1 .0), omega (arith, r .low, c .before .before .before .before .before .before .before .before .before .before .before .before .before .before .before .before .before .before .before .wire-layer .ensures), omega (arith, r .high, c .before .before .before .before .before .before .before .before .before .before .before .before .before .before .before .before .before .before .before .wire-layer .ensures)), omega (arith, r .some-node, w (getD (s .args .lowest .now) (c .before .before .before .before .before .before .before .before .before .before .before .before .before .before .before .before .before .before .before .before .before .before .before .wire-parent .result) 0), product-small (c .before .before .before .before .before .before .before .before .before .before .before .before .before .before .before .before .before .before .before .before .before .length-of .result - c .before .before .before .before .before .before .before .before .before .entry-position2 .result) (c .before .before .before .before .before .before .before .before .before .before .before .before .before .before .before .before .before .before .before .before .wire-factor .result) (omega (arith, len .1)) (omega (arith, c .before .before .before .before .before .before .before .before .before .before .before .before .before .before .before .before .before .before .before .before .wire-factor .ok))))
 
 same-length-7 : tie.Need-same-length-7
@@ -139,13 +138,12 @@ returns-3 c =
     let r = ready (s .args .nodes .now) (s .args .wires .now) (s .args .jumpers .now) (s .args .stage) (s .pre .0) (s .args .i) (s .pre .1 .0 .0) (s .args .e) (s .args .end) (s .pre .1 .0 .1) (sym (c .before .before .before .before .before .before .before .before .before .before .before .before .before .before .before .before .before .before .before .before .before .before .before .before .before .before .before .before .before .before .is-present .ensures) ∙ not-false _ (c .before .before .before .before .before .before .before .before .before .before .before .before .before .before .before .before .before .before .before .before .before .before .before .before .before .before .before .before .before .if1 .left)) in
     let len = c .before .before .before .before .before .before .before .before .before .before .before .before .before .before .before .before .before .before .before .before .before .before .before .before .before .before .length-of .ensures in
     let cut : s .args .e < s .args .end = omega (arith, s .pre .1 .0 .1 .ordered, c .before .before .before .before .before .before .before .before .before .before .before .before .before .before .before .before .before .before .before .before .before .before .before .if2 .left) in
-    let first : c .before .before .before .before .before .before .before .before .before .before .before .before .before .before .before .entry-position .result < 65536 = omega (arith, r .first (omega (arith, s .pre .1 .0 .1 .ordered, c .before .before .before .before .before .before .before .before .before .before .before .before .before .before .before .before .before .before .before .before .before .before .before .if2 .left)), len .0, len .1, c .before .before .before .before .before .before .before .before .before .before .before .before .before .before .before .entry-position .ensures) in
-    let w = added-small (s .args .i * 33554432) (s .args .i) (c .before .before .before .before .before .before .before .before .before .before .before .before .before .before .before .entry-position .result) (c .before .before .before .before .before .before .before .before .before .before .before .before .before .before .before .before .before .before .before .before .before .before .before .before .before .wire-factor .result) (c .before .before .before .before .before .before .before .before .before .before .before .before .before .before .before .before .before .before .before .before .before .before .before .before .wire-layer .result) (s .pre .1 .1 .0 .1) (c .before .before .before .before .before .before .before .before .before .before .before .add-steps2 .ensures) first (omega (arith, c .before .before .before .before .before .before .before .before .before .before .before .before .before .before .before .before .before .before .before .before .before .before .before .before .before .wire-factor .ok)) in (
+    let first : c .before .before .before .before .before .before .before .before .before .before .before .before .before .before .before .entry-position .result < lengthBound = omega (arith, r .first (omega (arith, s .pre .1 .0 .1 .ordered, c .before .before .before .before .before .before .before .before .before .before .before .before .before .before .before .before .before .before .before .before .before .before .before .if2 .left)), len .0, len .1, c .before .before .before .before .before .before .before .before .before .before .before .before .before .before .before .entry-position .ensures) in
+    let w = added-small (s .args .i * (2 * wireWeightBound)) (s .args .i) (c .before .before .before .before .before .before .before .before .before .before .before .before .before .before .before .entry-position .result) (c .before .before .before .before .before .before .before .before .before .before .before .before .before .before .before .before .before .before .before .before .before .before .before .before .before .wire-factor .result) (c .before .before .before .before .before .before .before .before .before .before .before .before .before .before .before .before .before .before .before .before .before .before .before .before .wire-layer .result) (s .pre .1 .1 .0 .1) (c .before .before .before .before .before .before .before .before .before .before .before .add-steps2 .ensures) first (omega (arith, c .before .before .before .before .before .before .before .before .before .before .before .before .before .before .before .before .before .before .before .before .before .before .before .before .before .wire-factor .ok)) in (
       λ os j.
           step-cut (s .args .nodes .now) (s .args .wires .now) (s .args .jumpers .now) os (s .args .stage) j (s .args .i) (s .pre .1 .0 .0) (s .pre .1 .1 .1 os j) (s .args .e) (s .args .end) (s .pre .1 .0 .1) (sym (c .before .before .before .before .before .before .before .before .before .before .before .before .before .before .before .before .before .before .before .before .before .before .before .before .before .before .before .before .before .before .is-present .ensures) ∙ not-false _ (c .before .before .before .before .before .before .before .before .before .before .before .before .before .before .before .before .before .before .before .before .before .before .before .before .before .before .before .before .before .if1 .left)) (getD (s .args .lowest .now) (c .before .before .before .before .before .before .before .before .before .before .before .before .before .before .before .before .before .before .before .before .before .before .before .before .before .before .before .before .wire-parent .result) 0) (c .before .before .before .before .before .before .before .before .before .before .before .before .before .before .before .before .before .before .before .before .before .before .before .before .before .before .before .before .before .before .before .node-flags .result) (c .before .before .before .before .before .before .before .before .before .before .before .before .before .before .before .before .before .before .before .before .before .before .before .before .before .before .length-of .result) (c .before .before .before .before .before .before .before .before .before .before .before .before .before .before .before .before .before .before .before .before .before .before .before .before .before .wire-factor .result) (c .before .before .before .before .before .before .before .before .before .before .before .before .before .before .before .before .before .before .before .before .before .before .before .before .wire-layer .result) (rw (c .before .before .before .before .before .before .before .before .before .before .before .before .before .before .before .before .before .before .before .before .before .before .before .before .before .before .before .before .wire-parent .ensures)) (c .before .before .before .before .before .before .before .before .before .before .before .before .before .before .before .before .before .before .before .before .before .before .before .before .before .before .before .before .before .before .before .node-flags .ensures) (c .before .before .before .before .before .before .before .before .before .before .before .before .before .before .before .before .before .before .before .before .before .before .before .before .before .before .length-of .ensures .0) (c .before .before .before .before .before .before .before .before .before .before .before .before .before .before .before .before .before .before .before .before .before .before .before .before .before .wire-factor .ensures) (c .before .before .before .before .before .before .before .before .before .before .before .before .before .before .before .before .before .before .before .before .before .before .before .before .wire-layer .ensures) cut (c .before .before .before .before .before .before .before .before .before .before .before .before .before .before .before .entry-position .result) (c .before .before .before .before .before .before .before .before .before .before .before .before .before .before .entry-position2 .result) (c .before .before .before .before .before .before .before .before .before .before .before .before .before .before .before .entry-position .ensures) (c .before .before .before .before .before .before .before .before .before .before .before .before .before .before .entry-position2 .ensures) (c .before .before .before .before .before .before .before .before .before .before .before .before .before .before .before .before .before .before .before .before .name-node3 .ensures) (c .before .before .before .before .before .before .before .before .before .before .before .add-steps2 .ensures) (c .before .before .before .before .add-steps3 .ensures),
-      at-more (s .args .i * 33554432 + 16777216 + 16777216) ((s .args .i + 1) * 33554432) (c .before .before .before .before .add-steps3 .last .0) (omega arith)
-          (added-small (s .args .i * 33554432 + 16777216) _ (c .before .before .before .before .before .before .before .before .before .before .before .before .before .before .before .before .before .before .before .before .before .before .before .before .before .before .length-of .result - c .before .before .before .before .before .before .before .before .before .before .before .before .before .before .entry-position2 .result) (c .before .before .before .before .before .before .before .before .before .before .before .before .before .before .before .before .before .before .before .before .before .before .before .before .before .wire-factor .result) (c .before .before .before .before .before .before .before .before .before .before .before .before .before .before .before .before .before .before .before .before .before .before .before .before .wire-layer .result) w (c .before .before .before .before .add-steps3 .ensures) (omega (arith, len .1)) (omega (arith, c .before .before .before .before .before .before .before .before .before .before .before .before .before .before .before .before .before .before .before .before .before .before .before .before .before .wire-factor .ok))),
-      omega (arith, r .few, len .0, len .1),
+      at-more (s .args .i * (2 * wireWeightBound) + wireWeightBound + wireWeightBound) ((s .args .i + 1) * (2 * wireWeightBound)) (c .before .before .before .before .add-steps3 .last .0) (omega arith)
+          (added-small (s .args .i * (2 * wireWeightBound) + wireWeightBound) _ (c .before .before .before .before .before .before .before .before .before .before .before .before .before .before .before .before .before .before .before .before .before .before .before .before .before .before .length-of .result - c .before .before .before .before .before .before .before .before .before .before .before .before .before .before .entry-position2 .result) (c .before .before .before .before .before .before .before .before .before .before .before .before .before .before .before .before .before .before .before .before .before .before .before .before .before .wire-factor .result) (c .before .before .before .before .before .before .before .before .before .before .before .before .before .before .before .before .before .before .before .before .before .before .before .before .wire-layer .result) w (c .before .before .before .before .add-steps3 .ensures) (omega (arith, len .1)) (omega (arith, c .before .before .before .before .before .before .before .before .before .before .before .before .before .before .before .before .before .before .before .before .before .before .before .before .before .wire-factor .ok))),
     )
 
 pub step-spec : {M : Type 1} → statement M

@@ -1,12 +1,12 @@
--- `reports::listing::with_harm` meets its contract.
+-- `reports::write::with_harm` meets its contract.
 -- Assumes nothing.
 use mathlib.Core.Path.{sym, _∙_}
 use native.Mathlib.Omega.{arith}
 use lib.Bits.{or-shifted-r}
 use borrow.Author.Tests.{not-true, not-false, le-ltb, lt-ltb}
 use borrow.Author.Needs.{needs}
-use Rattle.reports.proofs.listing.with_harm.Statement.{statement}
-use Rattle.reports.proofs.listing.with_harm.Tie as tie
+use Rattle.reports.proofs.write.with_harm.Statement.{statement}
+use Rattle.reports.proofs.write.with_harm.Tie as tie
 
 is-gate-requires : tie.Need-is-gate-requires
 is-gate-requires c κs = search needs

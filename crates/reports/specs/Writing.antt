@@ -30,8 +30,8 @@ use Rattle.lists.specs.EntriesOfWire.{OfWire, entry-jumper, positions-rise, non
 use Rattle.reports.specs.Gathered.{flag, flagsBelow, Gathered}
 use Rattle.reports.specs.NodeRecords.{two-flags, withHarm, node-record}
 use Rattle.reports.specs.StretchRecords.{stretch-record, stretch-names-are}
-use Rattle.reports.specs.Judged.{Judged}
-use Rattle.reports.specs.Judging.{formed-of, inside-of, free-of, rising-of, range-of, entries-present}
+use Rattle.reports.specs.ListRight.{ListRight}
+use Rattle.reports.specs.ListRights.{formed-of, inside-of, free-of, rising-of, range-of, entries-present}
 
 -- the record of node i's piece where i is its lowest node, from the work arrays
 unfoldable pub nodeFields : ℕ → List ℕ → List ℕ → List ℕ → List ℕ → ℕ → List ℕ
@@ -131,7 +131,7 @@ module _ (s : Stage) (limit : ℕ) (J : Points) where
       names k = nodeNames s J k ++ stretchNames s J k
 
 -- ---- the bytes of a node and its wire
-module _ (ns ws list os : List ℕ) (k : ℕ) (j : Judged ns ws k list os) (limit : ℕ) where
+module _ (ns ws list os : List ℕ) (k : ℕ) (j : ListRight ns ws k list os) (limit : ℕ) where
   node-bytes : {lo w f l : List ℕ} → Gathered (stageOf ns ws os k) (setOf list) (nodeCount ns) lo w f l → (i : ℕ) → i < nodeCount ns →
       nodeFields limit lo w f l i ≡ flatMap (recordOf (stageOf ns ws os k) limit (setOf list)) (nodeNames (stageOf ns ws os k) (setOf list) i)
   unfolding nodeFields nodeNames flatMap stageOf
@@ -232,7 +232,7 @@ placed-twice q n s out₀ out out₁ out₂ at behind ae oe e₁ be e₂ h =
     e₂ ∙ rw (one, here, ← append-assoc q n s) (place-more 0 (q ++ n) s out₀ (omega arith))
 
 -- a node and its wire more
-module _ (ns ws list os : List ℕ) (k : ℕ) (j : Judged ns ws k list os) (limit : ℕ) {lo w f l : List ℕ}
+module _ (ns ws list os : List ℕ) (k : ℕ) (j : ListRight ns ws k list os) (limit : ℕ) {lo w f l : List ℕ}
     (g : Gathered (stageOf ns ws os k) (setOf list) (nodeCount ns) lo w f l) (i a b : ℕ) (p : i < nodeCount ns) (entries : OfWire list (entryCount list) i a b)
   where
     -- their bytes have room

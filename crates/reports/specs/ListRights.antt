@@ -1,4 +1,4 @@
--- Steps of the pass over the wires of an accepted net with an accepted list, as the program makes them.
+-- What an accepted net with an accepted list gives the passes over its wires.
 -- Assumes nothing.
 use Prim.Native.Nat.{ℕ, zero, suc, _+_, _-_, _*_, _≤_, _<_}
 use mathlib.Core.Path.{_≡_, refl, sym, _∙_}
@@ -12,6 +12,7 @@ use borrow.Author.Tests.{lt-ltb, le-ltb, ltb-true, ltb-false}
 use Rattle.laws.specs.Sum.{χ}
 use Rattle.laws.specs.Sums.{by, no-both, and-left, χ-≤}
 use Rattle.net.specs.Layout.{wireBytes, mostNodes, mostLayers}
+use Rattle.net.specs.Limits.{lengthBound, factorBound, wireWeightBound}
 use Rattle.net.specs.Net.{nodeCount, nodeFlags, wireParent, wireLayer, wireFactor, wireLength}
 use Rattle.net.specs.Stage.{stageOf}
 use Rattle.net.specs.Formed.{Formed}
@@ -26,9 +27,9 @@ use Rattle.lists.specs.Entries.{EntriesFree, Rising, list-free, list-rising, li
 use Rattle.lists.specs.EntriesOfWire.{OfWire, positions-rise, position-inside, of-wire-cut, of-wire-first, of-wire-last}
 use Rattle.reports.specs.Gathered.{Gathered}
 use Rattle.reports.specs.Gathering.{Named, Added, flags-bits, gathered-absent, gathered-joined, gathered-cut}
-use Rattle.reports.specs.Judged.{Judged, Accepted, GatheredBelow, AtMost}
+use Rattle.reports.specs.ListRight.{ListRight, ListAccepted, GatheredBelow, AtMost}
 
-module _ (ns ws list os : List ℕ) (k : ℕ) (j : Judged ns ws k list os) where
+module _ (ns ws list os : List ℕ) (k : ℕ) (j : ListRight ns ws k list os) where
   pub formed-of : Formed (stageOf ns ws os k)
   formed-of = formed ns ws os (j .right) k
 
@@ -155,7 +156,7 @@ pub record Ready (ns ws list : List ℕ) (i a b : ℕ) : Type 0 where
   pub last : a < b → entryPosition list (b - 1) < wireLength ns ws i
   pub few : b ≤ a + wireLength ns ws i
 
-module _ (ns ws list : List ℕ) (k : ℕ) (accepted : Accepted ns ws k list) (i : ℕ) (h : i < nodeCount ns) where
+module _ (ns ws list : List ℕ) (k : ℕ) (accepted : ListAccepted ns ws k list) (i : ℕ) (h : i < nodeCount ns) where
   pub stored-of : wireBytes * i ≤ length ws
   stored-of = omega (arith, accepted .1 .right .sized .wires-length)
 
@@ -200,12 +201,12 @@ module _ (ns ws list : List ℕ) (k : ℕ) (accepted : Accepted ns ws k list) (i
         (wireLength ns ws i) (wireFactor ws i) (wireLayer ws i) refl refl refl refl refl
 
 -- ---- weights stay small
-pub product-small : (a b : ℕ) → a < 65536 → b < 256 → a * b < 16777216
+pub product-small : (a b : ℕ) → a < lengthBound → b < factorBound → a * b < wireWeightBound
 product-small a b p q =
     let a′ : a ≤ 65535 = omega arith in let b′ : b ≤ 255 = omega arith in omega (arith, mul-le-mul a′ b′)
 
 pub added-small : (x : ℕ) {w l w′ l′ : List ℕ} (h steps factor layer : ℕ) → AtMost x w → Added w l w′ l′ h steps factor layer →
-    steps < 65536 → factor < 256 → AtMost (x + 16777216) w′
+    steps < lengthBound → factor < factorBound → AtMost (x + wireWeightBound) w′
 added-small x h steps factor layer small d p q j =
     let e = d .weighed j in
     let a = small j in
@@ -227,7 +228,7 @@ pub record WireEntries (ws : List ℕ) (k : ℕ) (list : List ℕ) (i a b : ℕ)
   pub high : 0 < i → wireLayer ws i ≤ mostLayers
   pub rise : (d : ℕ) → a ≤ d → d + 1 < b → entryPosition list d ≤ entryPosition list (d + 1)
 
-pub wire-entries : (ns ws list : List ℕ) (k : ℕ) → Accepted ns ws k list → (i : ℕ) → i < nodeCount ns → (a b : ℕ) →
+pub wire-entries : (ns ws list : List ℕ) (k : ℕ) → ListAccepted ns ws k list → (i : ℕ) → i < nodeCount ns → (a b : ℕ) →
     OfWire list (entryCount list) i a b → WireEntries ws k list i a b
 wire-entries ns ws list k accepted i h a b w =
     let os = accepted .0 in

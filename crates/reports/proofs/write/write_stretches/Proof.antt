@@ -1,4 +1,4 @@
--- `reports::listing::write_stretches` meets its contract.
+-- `reports::write::write_stretches` meets its contract.
 -- Assumes nothing.
 use Prim.Native.Nat.{ℕ, _+_, _-_, _*_, _%_, _^_, _≤_}
 use mathlib.Core.Path.{_≡_, refl, _∙_, ap}
@@ -8,10 +8,10 @@ use lib.Pow.{shl-exact}
 use lib.ListN.{length}
 use borrow.Author.Needs.{needs}
 use Rattle.laws.specs.Place.{place, place-none, place-length}
-use Rattle.reports.specs.Listing.{stretchesFields, stretches-none, stretches-length, part-long, placed-stretch}
+use Rattle.reports.specs.Writing.{stretchesFields, stretches-none, stretches-length, part-long, placed-stretch}
 use Rattle.net.specs.Layout.{recordBytes}
-use Rattle.reports.proofs.listing.write_stretches.Statement.{statement}
-use Rattle.reports.proofs.listing.write_stretches.Tie as tie
+use Rattle.reports.proofs.write.write_stretches.Statement.{statement}
+use Rattle.reports.proofs.write.write_stretches.Tie as tie
 
 abbrev Inv-loop : tie.InvT-loop
 Inv-loop jumpers i e end factor layer out₀ at next₀ d₀ out next d =

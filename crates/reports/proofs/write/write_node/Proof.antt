@@ -1,4 +1,4 @@
--- `reports::listing::write_node` meets its contract.
+-- `reports::write::write_node` meets its contract.
 -- Assumes nothing.
 use Prim.Native.Nat.{_-_}
 use mathlib.Core.Path.{sym}
@@ -9,9 +9,9 @@ use borrow.Author.Needs.{needs}
 use Rattle.laws.specs.Place.{place-none}
 use Rattle.net.specs.Layout.{recordBytes}
 use Rattle.reports.specs.NodeRecords.{withHarm}
-use Rattle.reports.specs.Listing.{node-fields-no, node-fields-yes, part-long, placed-record, fields-length}
-use Rattle.reports.proofs.listing.write_node.Statement.{statement}
-use Rattle.reports.proofs.listing.write_node.Tie as tie
+use Rattle.reports.specs.Writing.{node-fields-no, node-fields-yes, part-long, placed-record, fields-length}
+use Rattle.reports.proofs.write.write_node.Statement.{statement}
+use Rattle.reports.proofs.write.write_node.Tie as tie
 
 mul-if1 : tie.Need-mul-if1
 mul-if1 c = search needs

@@ -20,11 +20,10 @@ ghost use Rattle.net.specs.Stage.{stageOf};
 ghost use Rattle.pieces.specs.Legal.{entryPosition};
 ghost use Rattle.pieces.specs.JumperList.{entryCount, setOf};
 ghost use Rattle.pieces.specs.Report.{reportOf};
-ghost use Rattle.reports.specs.Promise.{pieceCount};
 ghost use Rattle.reports.specs.NodeRecords.{withHarm};
-ghost use Rattle.reports.specs.Listing.{nodeFields, stretchesFields};
-ghost use Rattle.reports.specs.Judged.{Judged, Accepted, GatheredBelow, Roomy};
-ghost use Rattle.reports.specs.Judging.{WireEntries};
+ghost use Rattle.reports.specs.Writing.{nodeFields, stretchesFields};
+ghost use Rattle.reports.specs.ListRight.{ListRight, ListAccepted, GatheredBelow, Roomy, RecordsFit};
+ghost use Rattle.reports.specs.ListRights.{WireEntries};
 
 // Bit 2 where a piece is harmful: it has a gate, no source, and weighs more than the limit.
 fn with_harm(limit: u32, weight: u64, flags: u8) -> u8
@@ -54,7 +53,7 @@ fn write_node(
     out: &mut [u8],
     at: usize,
 ) -> usize
-    requires { ⌜ (i < mostNodes) × (i < length (now lowest)) × (i < length (now weight)) × (i < length (now flags)) × (i < length (now layers)) × (getD (now flags) i 0 < 4) ⌝ }
+    requires { ⌜ (i < mostNodes) × Roomy (i + 1) (now lowest) (now weight) (now flags) (now layers) × (getD (now flags) i 0 < 4) ⌝ }
     requires { ⌜ at + length (nodeFields limit (now lowest) (now weight) (now flags) (now layers) i) ≤ length (now out) ⌝ }
     ensures { λ r. ⌜ (r ≡ at + length (nodeFields limit (now (lowest .entry)) (now (weight .entry)) (now (flags .entry)) (now (layers .entry)) i))
         × (now (out .exit) ≡ place at (nodeFields limit (now (lowest .entry)) (now (weight .entry)) (now (flags .entry)) (now (layers .entry)) i) (now (out .entry))) ⌝ }
@@ -106,7 +105,7 @@ fn write_stretches(
 }
 
 // The records of the stretches of wire i, whose entries in the list are those from e to end - 1.
-fn write_wire(
+fn write_wire_records(
     stage: u8,
     wires: &[u8],
     jumpers: &[u8],
@@ -149,12 +148,11 @@ pub fn write_records(
     layers: &[u16],
     out: &mut [u8],
 )
-    requires { ⌜ Accepted (now nodes) (now wires) stage (now jumpers) ⌝ }
-    requires { ⌜ Roomy (now nodes) (now lowest) (now weight) (now flags) (now layers) ⌝ }
+    requires { ⌜ ListAccepted (now nodes) (now wires) stage (now jumpers) ⌝ }
+    requires { ⌜ Roomy (nodeCount (now nodes)) (now lowest) (now weight) (now flags) (now layers) ⌝ }
     requires { ⌜ GatheredBelow (now nodes) (now wires) stage (now jumpers) (nodeCount (now nodes)) (now lowest) (now weight) (now flags) (now layers) ⌝ }
-    requires { ⌜ ((os : List ℕ) → Judged (now nodes) (now wires) stage (now jumpers) os →
-        recordBytes * pieceCount (stageOf (now nodes) (now wires) os stage) (now jumpers) ≤ length (now out)) ⌝ }
-    ensures { λ r. ⌜ ((os : List ℕ) → Judged (now (nodes .entry)) (now (wires .entry)) stage (now (jumpers .entry)) os →
+    requires { ⌜ RecordsFit (now nodes) (now wires) stage (now jumpers) (now out) ⌝ }
+    ensures { λ r. ⌜ ((os : List ℕ) → ListRight (now (nodes .entry)) (now (wires .entry)) stage (now (jumpers .entry)) os →
         now (out .exit) ≡ place 0 (reportOf (stageOf (now (nodes .entry)) (now (wires .entry)) os stage) limit (setOf (now (jumpers .entry)))) (now (out .entry))) ⌝ }
 {
     let count = node_count(nodes);
@@ -164,7 +162,7 @@ pub fn write_records(
     while i < count {
         let end = entries_end(jumpers, i, e);
         let behind = write_node(limit, i, lowest, weight, flags, layers, out, at);
-        at = write_wire(stage, wires, jumpers, i, e, end, out, behind);
+        at = write_wire_records(stage, wires, jumpers, i, e, end, out, behind);
         e = end;
         i += 1;
     }

@@ -1,4 +1,4 @@
--- `reports::listing::write_wire` meets its contract.
+-- `reports::write::write_wire_records` meets its contract.
 -- Assumes nothing.
 use Prim.Native.Nat.{ℕ, _-_}
 use mathlib.Core.Path.{_≡_, sym, _∙_}
@@ -9,9 +9,9 @@ use borrow.Author.Needs.{needs}
 use Rattle.laws.specs.Sums.{and-left}
 use Rattle.laws.specs.Place.{place-none}
 use Rattle.net.specs.Net.{wireLayer, wireFactor}
-use Rattle.reports.specs.Listing.{stretches-none}
-use Rattle.reports.proofs.listing.write_wire.Statement.{statement}
-use Rattle.reports.proofs.listing.write_wire.Tie as tie
+use Rattle.reports.specs.Writing.{stretches-none}
+use Rattle.reports.proofs.write.write_wire_records.Statement.{statement}
+use Rattle.reports.proofs.write.write_wire_records.Tie as tie
 
 is-present-requires : tie.Need-is-present-requires
 is-present-requires c κs = search needs
@@ -43,8 +43,8 @@ same-length c = search needs
 returns-2 : tie.Need-returns-2
 returns-2 c = (c .before .before .write-stretches .ensures .0, rw (c .before .before .before .before .before .wire-factor .ensures, c .before .before .before .before .wire-layer .ensures) at (c .before .before .write-stretches .ensures .1))
 
-pub write-wire-spec : {M : Type 1} → statement M
-write-wire-spec =
+pub write-wire-records-spec : {M : Type 1} → statement M
+write-wire-records-spec =
     tie.close
     (tie.spec
     is-present-requires

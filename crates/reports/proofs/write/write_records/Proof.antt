@@ -1,4 +1,4 @@
--- `reports::listing::write_records` meets its contract.
+-- `reports::write::write_records` meets its contract.
 -- Assumes nothing.
 use Prim.Native.Nat.{ℕ, _-_, _≤_, _<_}
 use mathlib.Core.Path.{_≡_, refl, _∙_, ap}
@@ -10,17 +10,17 @@ use Rattle.laws.specs.Place.{place, place-none}
 use Rattle.net.specs.Net.{nodeCount}
 use Rattle.net.specs.Stage.{stageOf}
 use Rattle.pieces.specs.JumperList.{setOf}
-use Rattle.reports.specs.Judged.{Judged}
-use Rattle.reports.specs.Judging.{wire-entries, node-small}
-use Rattle.reports.specs.Listing.{recordsBelow, records-none, records-all, wire-room, wire-placed, flags-small}
+use Rattle.reports.specs.ListRight.{ListRight}
+use Rattle.reports.specs.ListRights.{wire-entries, node-small}
+use Rattle.reports.specs.Writing.{recordsBelow, records-none, records-all, wire-room, wire-placed, flags-small}
 use Rattle.reports.specs.Reached.{Reached, reached-none, reached-wire, reached-next}
-use Rattle.reports.proofs.listing.write_records.Statement.{statement}
-use Rattle.reports.proofs.listing.write_records.Tie as tie
+use Rattle.reports.proofs.write.write_records.Statement.{statement}
+use Rattle.reports.proofs.write.write_records.Tie as tie
 
 abbrev Inv-loop : tie.InvT-loop
 Inv-loop stage limit nodes wires jumpers lowest weight flags layers out₀ count at₀ e₀ i₀ out at e i =
     (i ≤ nodeCount nodes) × (count ≡ nodeCount nodes) × Reached jumpers i e × (length out ≡ length out₀)
-    × ((os : List ℕ) → Judged nodes wires stage jumpers os →
+    × ((os : List ℕ) → ListRight nodes wires stage jumpers os →
     (at ≡ length (recordsBelow (stageOf nodes wires os stage) limit (setOf jumpers) i))
     × (out ≡ place 0 (recordsBelow (stageOf nodes wires os stage) limit (setOf jumpers) i) out₀))
 
@@ -58,10 +58,10 @@ write-node-requires c κs =
     let g = s .pre .1 .1 .0 os j in
     let r = wire-room (s .args .nodes .now) (s .args .wires .now) (s .args .jumpers .now) os (s .args .stage) j (s .args .limit) g (c .before .before .before .loop .i) (c .before .before .before .loop .e) (c .before .entries-end .result) h w (s .args .out .now) (c .before .before .before .loop .at) (v .4 os j .0) (s .pre .1 .1 .1 os j) in
     let f = flags-small (stageOf (s .args .nodes .now) (s .args .wires .now) os (s .args .stage)) (setOf (s .args .jumpers .now)) (nodeCount (s .args .nodes .now)) (c .before .before .before .loop .i) in
-    ((node-small (s .args .nodes .now) (s .args .wires .now) (s .args .jumpers .now) (s .args .stage) (s .pre .0) (c .before .before .before .loop .i) h, omega (arith, m .lowests), omega (arith, m .weights), omega (arith, m .flagged), omega (arith, m .layered), omega (arith, g .flagged (c .before .before .before .loop .i))), omega (arith, v .3))
+    ((node-small (s .args .nodes .now) (s .args .wires .now) (s .args .jumpers .now) (s .args .stage) (s .pre .0) (c .before .before .before .loop .i) h, record { lowests = omega (arith, m .lowests); weights = omega (arith, m .weights); flagged = omega (arith, m .flagged); layered = omega (arith, m .layered) }, omega (arith, g .flagged (c .before .before .before .loop .i))), omega (arith, v .3))
 
-write-wire-requires : tie.Need-write-wire-requires Inv-loop μ-loop
-write-wire-requires c κs =
+write-wire-records-requires : tie.Need-write-wire-records-requires Inv-loop μ-loop
+write-wire-records-requires c κs =
     let s = c .before .before .before .before .before .before .before .before .before .before .before .before .before .before .before .before .before in
     let v = c .before .before .before .before .before .before .before .loop .inv in
     let n = c .before .before .before .before .before .entries-end .ensures in
@@ -89,11 +89,11 @@ loop-again c =
       omega (arith, v .1),
       v .1,
       reached-next (s .args .nodes .now) (s .args .wires .now) (s .args .jumpers .now) (s .args .stage) (s .pre .0) (c .before .before .before .before .before .before .before .before .before .before .loop .i) (c .before .before .before .before .before .before .before .before .before .before .loop .e) (c .before .before .before .before .before .before .before .before .entries-end .result) w,
-      c .before .before .write-wire .kept .1 .1 .1 .1 .1 .1 .0 ∙ (c .before .before .before .before .before .before .write-node .kept .1 .1 .1 .1 .1 .1 .0 ∙ v .3),
+      c .before .before .write-wire-records .kept .1 .1 .1 .1 .1 .1 .0 ∙ (c .before .before .before .before .before .before .write-node .kept .1 .1 .1 .1 .1 .1 .0 ∙ v .3),
       λ os j.
           wire-placed (s .args .nodes .now) (s .args .wires .now) (s .args .jumpers .now) os (s .args .stage) j (s .args .limit) (s .pre .1 .1 .0 os j) (c .before .before .before .before .before .before .before .before .before .before .loop .i) (c .before .before .before .before .before .before .before .before .before .before .loop .e) (c .before .before .before .before .before .before .before .before .entries-end .result) h w
-          (s .args .out .now) (c .before .before .before .before .before .before .before .before .before .before .loop .out) (c .before .before .before .before .before .before .write-node .last .1 .1 .1 .1 .1 .1 .0) (c .before .before .write-wire .last .1 .1 .1 .1 .1 .1 .0) (c .before .before .before .before .before .before .before .before .before .before .loop .at) (c .before .before .before .before .before .before .write-node .result) (c .before .before .write-wire .result)
-          (v .4 os j .0) (v .4 os j .1) (s .pre .1 .1 .1 os j) (c .before .before .before .before .before .before .write-node .ensures .0) (c .before .before .before .before .before .before .write-node .ensures .1) (c .before .before .write-wire .ensures .0) (c .before .before .write-wire .ensures .1),
+          (s .args .out .now) (c .before .before .before .before .before .before .before .before .before .before .loop .out) (c .before .before .before .before .before .before .write-node .last .1 .1 .1 .1 .1 .1 .0) (c .before .before .write-wire-records .last .1 .1 .1 .1 .1 .1 .0) (c .before .before .before .before .before .before .before .before .before .before .loop .at) (c .before .before .before .before .before .before .write-node .result) (c .before .before .write-wire-records .result)
+          (v .4 os j .0) (v .4 os j .1) (s .pre .1 .1 .1 os j) (c .before .before .before .before .before .before .write-node .ensures .0) (c .before .before .before .before .before .before .write-node .ensures .1) (c .before .before .write-wire-records .ensures .0) (c .before .before .write-wire-records .ensures .1),
     )
 
 same-length : tie.Need-same-length Inv-loop μ-loop
@@ -118,7 +118,7 @@ write-records-spec =
     loop-holds
     entries-end-requires
     write-node-requires
-    write-wire-requires
+    write-wire-records-requires
     add-i
     loop-less
     loop-again
