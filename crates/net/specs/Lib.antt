@@ -14,3 +14,4 @@ pub mod AcceptedIf
 pub mod Calls
 pub mod Parts
 pub mod RoundTrip
+pub mod Excluded

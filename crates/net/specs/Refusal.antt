@@ -1,4 +1,4 @@
--- Document 01, "Where each refusal is met": numbers 2 to 11 and 16, which comes first, and what reading and writing answer.
+-- Document 01, "Where each refusal is met": numbers 1 to 11 and 16, which comes first, and what reading and writing answer.
 -- Assumes nothing.
 use Prim.Native.Nat.{ℕ, zero, suc, _+_, _-_, _*_, _%_}
 use mathlib.Core.Bool.{Bool, true, false, not, _&&_, _||_, cond}

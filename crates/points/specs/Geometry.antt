@@ -17,6 +17,7 @@ use borrow.Author.Tests.{ltb-true, ltb-false, lt-ltb, le-ltb, leb-true, leb-fals
 use Rattle.laws.specs.Sum.{any}
 use Rattle.laws.specs.Sums.{by, no-both, and-left, and-right, and-intro, any-yes, any-none}
 use Rattle.net.specs.Layout.{nodeBytes}
+use Rattle.net.specs.Limits.{lengthBound}
 use Rattle.net.specs.Net.{distance, toward, nodeCount, nodeX, nodeY, wireParent, wireLength, pointX, pointY, obstacleX1, obstacleY1, obstacleX2, obstacleY2, obstacleCount, holds, barred}
 use Rattle.net.specs.Accepted.{NetRight}
 use Rattle.points.specs.Cuttable.{Checked, Highest, Lowest, LastBelow, FirstAbove}
@@ -37,16 +38,16 @@ stepped from d t = byDirection d (from - t) from (from + t)
 
 -- every coordinate up to t steps in a direction is a number of 16 bits
 pub data Reach (from : ℕ) : ℤ → ℕ → Type 0 where
-  still : {t : ℕ} → from < 65536 → t < 65536 → Reach from (pos 0) t
-  rising : {t : ℕ} → from + t < 65536 → Reach from (pos 1) t
-  falling : {t : ℕ} → from < 65536 → t ≤ from → Reach from (negsuc 0) t
+  still : {t : ℕ} → from < lengthBound → t < lengthBound → Reach from (pos 0) t
+  rising : {t : ℕ} → from + t < lengthBound → Reach from (pos 1) t
+  falling : {t : ℕ} → from < lengthBound → t ≤ from → Reach from (negsuc 0) t
 
 -- a signed difference
 pub difference-is : (a b : ℕ) → pos a -ℤ pos b ≡ subℕ a b
 difference-is a zero = rw (le-ltb a 0 (omega arith)) (ap pos (omega arith))
 difference-is a (suc b) = refl
 
-pub difference-fits : (a b : ℕ) → a < 65536 → b < 65536 → mag (subℕ a b) < 65536
+pub difference-fits : (a b : ℕ) → a < lengthBound → b < lengthBound → mag (subℕ a b) < lengthBound
 difference-fits a b ha hb =
     by (ltb a b) (λ h. rw h (omega arith)) (λ h. rw h (omega arith))
 
@@ -84,12 +85,12 @@ difference-above a b h = rw (le-ltb a b h)
 pub steps-down : (t : ℕ) → negsuc 0 *ℤ pos t ≡ negℤ (pos t)
 steps-down t = let e : suc 0 * t ≡ t = omega arith in ap (λ (n : ℕ). negℤ (pos n)) e
 
-pub steps-fit : {from t : ℕ} {d : ℤ} → Reach from d t → mag (d *ℤ pos t) < 65536
+pub steps-fit : {from t : ℕ} {d : ℤ} → Reach from d t → mag (d *ℤ pos t) < lengthBound
 steps-fit (still h g) = omega arith
 steps-fit (rising h) = omega arith
 steps-fit {t = t} (falling h g) = rw (steps-down t) (small t (omega arith))
   where
-    small : (n : ℕ) → n < 65536 → mag (negℤ (pos n)) < 65536
+    small : (n : ℕ) → n < lengthBound → mag (negℤ (pos n)) < lengthBound
     small zero f = omega arith
     small (suc n) f = omega arith
 
@@ -99,13 +100,13 @@ stepped-is (still h g) = ap pos (omega arith)
 stepped-is (rising h) = ap pos (omega arith)
 stepped-is {from} {t} (falling h g) = rw (steps-down t) (difference-is from t ∙ difference-above from t g)
 
-pub stepped-fits : {from t : ℕ} {d : ℤ} → Reach from d t → stepped from d t < 65536
+pub stepped-fits : {from t : ℕ} {d : ℤ} → Reach from d t → stepped from d t < lengthBound
 unfolding stepped
 stepped-fits (still h g) = h
 stepped-fits (rising h) = h
 stepped-fits (falling h g) = omega arith
 
-pub reach-steps : {from t : ℕ} {d : ℤ} → Reach from d t → t < 65536
+pub reach-steps : {from t : ℕ} {d : ℤ} → Reach from d t → t < lengthBound
 reach-steps (still h g) = g
 reach-steps (rising h) = omega arith
 reach-steps (falling h g) = omega arith
@@ -126,7 +127,7 @@ stepped-toward from to t = pick (ltb from to) (ltb to from)
     pick false true = refl
     pick false false = refl
 
-pub reach-toward : (from to t : ℕ) → from < 65536 → to < 65536 → t < 65536 → (from ≡ to) ⊎ (t ≤ distance from to) → Reach from (heading from to) t
+pub reach-toward : (from to t : ℕ) → from < lengthBound → to < lengthBound → t < lengthBound → (from ≡ to) ⊎ (t ≤ distance from to) → Reach from (heading from to) t
 reach-toward from to t hf ht h = ⊎-elim same apart
   where
     same : from ≡ to → Reach from (heading from to) t
@@ -214,17 +215,17 @@ still-read {d} a b c f h g = cases d (rw (toZ-ofZ f) at h) (rw (toZ-ofZ f) at g)
 
 -- an accepted wire: its length, and the points up to it
 module _ (nodes wires : List ℕ) (i : ℕ) (bytes : (k : ℕ) → getD nodes k 0 < 256) (w : Checked nodes wires i) where
-  x-small : (k : ℕ) → nodeX nodes k < 65536
+  x-small : (k : ℕ) → nodeX nodes k < lengthBound
   x-small k = omega (arith, bytes (nodeBytes * k), bytes (nodeBytes * k + 1))
 
-  y-small : (k : ℕ) → nodeY nodes k < 65536
+  y-small : (k : ℕ) → nodeY nodes k < lengthBound
   y-small k = omega (arith, bytes (nodeBytes * k + 2), bytes (nodeBytes * k + 2 + 1))
 
-  pub length-small : wireLength nodes wires i < 65536
+  pub length-small : wireLength nodes wires i < lengthBound
   unfolding wireLength
   length-small =
       let p = wireParent wires i in
-      ⊎-elim {C = wireLength nodes wires i < 65536}
+      ⊎-elim {C = wireLength nodes wires i < lengthBound}
       (λ e. omega (arith, x-small i, y-small i, x-small p, y-small p))
       (λ e. omega (arith, x-small i, y-small i, x-small p, y-small p))
       (w .straight)

@@ -1,2 +1,3 @@
 pub mod Cuttable
 pub mod Geometry
+pub mod Excluded

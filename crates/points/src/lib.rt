@@ -12,6 +12,7 @@ ghost use mathlib.Core.Bool.{true, false};
 ghost use mathlib.Core.Logic.{_⊎_};
 ghost use Prim.Native.Nat.{ℕ, _+_, _-_, _<_, _≤_};
 ghost use lib.IntN.{subℕ};
+ghost use Rattle.net.specs.Limits.{lengthBound};
 ghost use Rattle.net.specs.Net.{distance, wireLength, pointX, pointY, obstacleCount, holds, barred};
 ghost use Rattle.points.specs.Cuttable.{Checked, Highest, Lowest, LastBelow, FirstAbove};
 ghost use Rattle.points.specs.Geometry.{heading, stepped, Reach, between, lastBelow, firstAbove, heldAt};
@@ -19,7 +20,7 @@ ghost use Rattle.points.specs.Geometry.{heading, stepped, Reach, between
 // The length of wire i.
 pub fn length_of(nodes: &[u8], wires: &[u8], i: usize) -> u32
     requires { ⌜ Checked (now nodes) (now wires) i ⌝ }
-    ensures { λ r. ⌜ (r ≡ wireLength (now (nodes .entry)) (now (wires .entry)) i) × (r < 65536) ⌝ }
+    ensures { λ r. ⌜ (r ≡ wireLength (now (nodes .entry)) (now (wires .entry)) i) × (r < lengthBound) ⌝ }
 {
     let p = wire_parent(wires, i);
     steps_between(node_x(nodes, i), node_x(nodes, p))

@@ -1,4 +1,4 @@
--- `net::geometry::above_on_axis` meets its contract. Assumes nothing.
+-- `points::above_on_axis` meets its contract. Assumes nothing.
 use Prim.Native.Nat.{_+_, _-_}
 use mathlib.Core.Path.{_∙_, sym}
 use Rattle.points.specs.Geometry.{firstAbove, falls-read, rises-read, still-read}

@@ -1,4 +1,4 @@
--- `net::geometry::at_step` meets its contract. Assumes nothing.
+-- `points::at_step` meets its contract. Assumes nothing.
 use Prim.Native.Nat.{ℕ}
 use native.Mathlib.Omega.{arith}
 use mathlib.Core.Path.{_≡_, _∙_, ap}

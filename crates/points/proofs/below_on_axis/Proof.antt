@@ -1,4 +1,4 @@
--- `net::geometry::below_on_axis` meets its contract. Assumes nothing.
+-- `points::below_on_axis` meets its contract. Assumes nothing.
 use Prim.Native.Nat.{_-_}
 use mathlib.Core.Path.{_∙_, sym}
 use Rattle.points.specs.Geometry.{lastBelow, falls-read, rises-read, still-read}

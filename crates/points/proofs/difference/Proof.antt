@@ -1,4 +1,4 @@
--- `net::geometry::difference` meets its contract. Assumes nothing.
+-- `points::difference` meets its contract. Assumes nothing.
 use Prim.Native.Nat.{ℕ}
 use native.Mathlib.Omega.{arith}
 use mathlib.Core.Path.{_≡_, _∙_}

@@ -1,4 +1,4 @@
--- `net::geometry::direction` meets its contract. Assumes nothing.
+-- `points::direction` meets its contract. Assumes nothing.
 use Prim.Native.Nat.{_<_}
 use mathlib.Core.Path.{_∙_, sym}
 use borrow.Author.Needs.{needs}

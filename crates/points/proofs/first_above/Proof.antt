@@ -1,4 +1,4 @@
--- `net::geometry::first_above` meets its contract. Assumes nothing.
+-- `points::first_above` meets its contract. Assumes nothing.
 use denote.Ref.{now}
 use Rattle.points.specs.Geometry.{obstacle-above}
 use mir.Facts.{toZ-ofZ}

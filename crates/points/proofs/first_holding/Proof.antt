@@ -1,4 +1,4 @@
--- `net::geometry::first_holding` meets its contract. Assumes nothing.
+-- `points::first_holding` meets its contract. Assumes nothing.
 use Rattle.net.specs.Net.{obstacleCount, holds}
 use borrow.Author.Count.{below-none, below-more}
 use native.Mathlib.Omega.{arith}

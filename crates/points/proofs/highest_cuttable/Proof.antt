@@ -1,4 +1,4 @@
--- `net::geometry::highest_cuttable` meets its contract. Assumes nothing.
+-- `points::highest_cuttable` meets its contract. Assumes nothing.
 use Rattle.points.specs.Geometry.{reach-x, reach-y, held-is, highest-ap}
 use mir.Facts.{toZ-ofZ}
 use mir.Syntax.{w32}

@@ -1,4 +1,4 @@
--- `net::geometry::highest_free` meets its contract. Assumes nothing.
+-- `points::highest_free` meets its contract. Assumes nothing.
 use Rattle.points.specs.Geometry.{reach-less, heldAt, first-none, leap-down}
 use Rattle.net.specs.Net.{obstacleCount, holds}
 use denote.Ref.{now}

@@ -1,4 +1,4 @@
--- `net::geometry::holds_point` meets its contract. Assumes nothing.
+-- `points::holds_point` meets its contract. Assumes nothing.
 use mathlib.Core.Path.{_∙_, sym}
 use Rattle.net.specs.Net.{holds}
 use borrow.Author.Needs.{needs}

@@ -1,4 +1,4 @@
--- `net::geometry::is_barred` meets its contract. Assumes nothing.
+-- `points::is_barred` meets its contract. Assumes nothing.
 use Rattle.points.specs.Geometry.{first-any}
 use Rattle.net.specs.Net.{barred, holds}
 use denote.Ref.{now}

@@ -1,4 +1,4 @@
--- `net::geometry::larger` meets its contract. Assumes nothing.
+-- `points::larger` meets its contract. Assumes nothing.
 use mathlib.Core.Path.{refl}
 use mathlib.Core.Logic.{inl, inr}
 use borrow.Author.Needs.{needs}

@@ -1,4 +1,4 @@
--- `net::geometry::last_below` meets its contract. Assumes nothing.
+-- `points::last_below` meets its contract. Assumes nothing.
 use denote.Ref.{now}
 use Rattle.points.specs.Geometry.{obstacle-below}
 use mir.Facts.{toZ-ofZ}

@@ -1,4 +1,4 @@
--- `net::geometry::length_of` meets its contract. Assumes nothing.
+-- `points::length_of` meets its contract. Assumes nothing.
 use denote.Ref.{now}
 use Prim.Native.Nat.{_+_}
 use native.Mathlib.Omega.{arith}

@@ -1,4 +1,4 @@
--- `net::geometry::lowest_cuttable` meets its contract. Assumes nothing.
+-- `points::lowest_cuttable` meets its contract. Assumes nothing.
 use Rattle.points.specs.Geometry.{reach-x, reach-y, held-is, lowest-ap}
 use Rattle.net.specs.Net.{wireLength}
 use Prim.Native.Nat.{_≤_}

@@ -1,4 +1,4 @@
--- `net::geometry::lowest_free` meets its contract. Assumes nothing.
+-- `points::lowest_free` meets its contract. Assumes nothing.
 use Rattle.points.specs.Geometry.{reach-less, heldAt, first-none, leap-up}
 use Rattle.net.specs.Net.{obstacleCount, holds}
 use denote.Ref.{now}

@@ -1,4 +1,4 @@
--- `net::geometry::point_x` meets its contract. Assumes nothing.
+-- `points::point_x` meets its contract. Assumes nothing.
 use denote.Ref.{now}
 use Rattle.points.specs.Geometry.{reach-x, point-x-is}
 use native.Mathlib.Omega.{arith}

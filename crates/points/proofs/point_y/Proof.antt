@@ -1,4 +1,4 @@
--- `net::geometry::point_y` meets its contract. Assumes nothing.
+-- `points::point_y` meets its contract. Assumes nothing.
 use denote.Ref.{now}
 use Rattle.points.specs.Geometry.{reach-y, point-y-is}
 use native.Mathlib.Omega.{arith}

@@ -1,4 +1,4 @@
--- `net::geometry::smaller` meets its contract. Assumes nothing.
+-- `points::smaller` meets its contract. Assumes nothing.
 use mathlib.Core.Path.{refl}
 use mathlib.Core.Logic.{inl, inr}
 use borrow.Author.Needs.{needs}

@@ -1,4 +1,4 @@
--- `net::geometry::steps_between` meets its contract. Assumes nothing.
+-- `points::steps_between` meets its contract. Assumes nothing.
 use Prim.Native.Nat.{ℕ, _+_, _-_, _^_, _<_, _≤_}
 use native.Mathlib.Omega.{arith}
 use mathlib.Core.Path.{_≡_, _∙_, sym, ap}
@@ -9,11 +9,12 @@ use lib.Signed.{mag}
 use mir.Syntax.{w32}
 use mir.Val.{SFits, toZ, ofZ}
 use mir.Facts.{toZ-ofZ}
+use Rattle.net.specs.Limits.{lengthBound}
 use Rattle.points.specs.Geometry.{difference-read, negative-read, difference-below, difference-above}
 use Rattle.points.proofs.steps_between.Statement.{statement}
 use Rattle.points.proofs.steps_between.Tie as tie
 
-module _ (from to : ℕ) (d : ℤ) (small : from < 65536) (small′ : to < 65536) (f : mag d < 2 ^ 31) (e : d ≡ subℕ to from) where
+module _ (from to : ℕ) (d : ℤ) (small : from < lengthBound) (small′ : to < lengthBound) (f : mag d < 2 ^ 31) (e : d ≡ subℕ to from) where
   negated : to < from → pos 0 -ℤ toZ w32 (ofZ w32 d) ≡ pos (from - to)
   negated h = rw (difference-read f, e, difference-below to from h) (let z : 0 + (from - to) ≡ from - to = omega arith in ap pos z)
 

@@ -1,4 +1,4 @@
--- `net::geometry::within` meets its contract. Assumes nothing.
+-- `points::within` meets its contract. Assumes nothing.
 use borrow.Author.Tests.{le-leb, lt-leb}
 use Rattle.points.proofs.within.Statement.{statement}
 use Rattle.points.proofs.within.Tie as tie
