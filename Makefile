@@ -1,6 +1,7 @@
 # make demo     build what is needed, and report, repair and draw a sample net
 # make test     prove every crate, build the library, run the Rust tests; the last line is 'N passed, M failed'
 # make bench    the proved library against plain Rust, as ratios, and the stack that each call takes
+#               BEFORE=COMMIT: against that commit's library too
 # make fuzz     all four calls against the independent implementation under libFuzzer, for SECONDS (3600)
 # make install  library, header, pkg-config file, programs and man pages under PREFIX (/usr/local)
 #
@@ -24,7 +25,7 @@ demo: library
 	@examples/demo
 
 bench: library
-	@cargo run --release --offline --locked --quiet --manifest-path bench/Cargo.toml
+	@bench/run $(BEFORE)
 
 fuzz: library
 	@tests/fuzz $(SECONDS)

@@ -1,5 +1,6 @@
 //! An implementation of document 01 that shares nothing with the proved one, and what the tests need around it.
 
+mod answer;
 pub mod compile;
 pub mod generate;
 #[path = "../../include/antenna.rs"]
@@ -7,6 +8,7 @@ pub mod library;
 pub mod plain;
 pub mod random;
 pub mod reference;
+pub mod stack;
 pub mod suite;
 
 pub use library::Answer;
@@ -16,24 +18,6 @@ use std::path::{Path, PathBuf};
 /// The repository.
 pub fn root() -> PathBuf {
     Path::new(env!("CARGO_MANIFEST_DIR")).join("..")
-}
-
-impl Answer {
-    pub fn done(count: usize) -> Answer {
-        Answer {
-            number: 0,
-            place: 0,
-            count: count as u64,
-        }
-    }
-
-    pub fn refused(number: u32, place: usize) -> Answer {
-        Answer {
-            number,
-            place: place as u64,
-            count: 0,
-        }
-    }
 }
 
 pub type Read = fn(&[u8]) -> Answer;

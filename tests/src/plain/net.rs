@@ -2,183 +2,183 @@
 
 use crate::Answer;
 
+/// The records of a net that is accepted, where they stand in the file.
 #[derive(Clone, Copy)]
 pub struct Net<'a> {
-    pub nodes: &'a [u8],
-    pub wires: &'a [u8],
-    pub obstacles: &'a [u8],
+    pub nodes: &'a [[u8; 5]],
+    pub wires: &'a [[u8; 3]],
+    pub obstacles: &'a [[u8; 8]],
 }
 
-fn number16(bytes: &[u8], at: usize) -> u16 {
-    u16::from_le_bytes([bytes[at], bytes[at + 1]])
+/// A wire: its record, and the line from its node to its parent.
+#[derive(Clone, Copy, Default)]
+pub struct Wire {
+    pub parent: usize,
+    pub layer: u8,
+    pub factor: u8,
+    pub length: u32,
+    x: i32,
+    y: i32,
+    dx: i32,
+    dy: i32,
 }
 
-fn number32(bytes: &[u8], at: usize) -> u32 {
-    u32::from_le_bytes([bytes[at], bytes[at + 1], bytes[at + 2], bytes[at + 3]])
+fn place(&[x0, x1, y0, y1, _]: &[u8; 5]) -> (u16, u16) {
+    (u16::from_le_bytes([x0, x1]), u16::from_le_bytes([y0, y1]))
 }
 
-impl<'a> Net<'a> {
+fn corners(&[a, b, c, d, e, f, g, h]: &[u8; 8]) -> [u16; 4] {
+    [[a, b], [c, d], [e, f], [g, h]].map(u16::from_le_bytes)
+}
+
+impl Net<'_> {
     pub fn count(&self) -> usize {
-        self.nodes.len() / 5
-    }
-
-    pub fn x(&self, i: usize) -> u16 {
-        number16(self.nodes, 5 * i)
-    }
-
-    pub fn y(&self, i: usize) -> u16 {
-        number16(self.nodes, 5 * i + 2)
+        self.nodes.len()
     }
 
     pub fn flags(&self, i: usize) -> u8 {
-        self.nodes[5 * i + 4]
-    }
-
-    pub fn parent(&self, i: usize) -> usize {
-        self.wires[3 * i - 3] as usize
+        self.nodes[i][4]
     }
 
     pub fn layer(&self, i: usize) -> u8 {
-        self.wires[3 * i - 2]
+        self.wires[i - 1][1]
     }
 
-    pub fn factor(&self, i: usize) -> u64 {
-        self.wires[3 * i - 1] as u64
+    pub fn wire(&self, i: usize) -> Wire {
+        let [parent, layer, factor] = self.wires[i - 1];
+        let ((x, y), (px, py)) = (place(&self.nodes[i]), place(&self.nodes[parent as usize]));
+        let (x, y) = (i32::from(x), i32::from(y));
+        let (across, up) = (i32::from(px) - x, i32::from(py) - y);
+        Wire {
+            parent: parent.into(),
+            layer,
+            factor,
+            length: across.unsigned_abs() + up.unsigned_abs(),
+            x,
+            y,
+            dx: across.signum(),
+            dy: up.signum(),
+        }
     }
 
-    pub fn length(&self, i: usize) -> u64 {
-        let p = self.parent(i);
-        (self.x(i).abs_diff(self.x(p)) as u64) + (self.y(i).abs_diff(self.y(p)) as u64)
+    /// The first obstacle that holds position t of a wire.
+    fn holding(&self, wire: &Wire, t: u32) -> Option<[u16; 4]> {
+        let x = (wire.x + wire.dx * t as i32) as u16;
+        let y = (wire.y + wire.dy * t as i32) as u16;
+        let mut obstacles = self.obstacles.iter().map(corners);
+        obstacles.find(|&[x1, y1, x2, y2]| x1 <= x && x <= x2 && y1 <= y && y <= y2)
     }
 
-    pub fn obstacle(&self, k: usize) -> [u16; 4] {
-        let at = 8 * k;
-        [
-            number16(self.obstacles, at),
-            number16(self.obstacles, at + 2),
-            number16(self.obstacles, at + 4),
-            number16(self.obstacles, at + 6),
-        ]
-    }
-
-    /// The line of wire i: where node i lies and the direction to the parent on each axis.
-    fn line(&self, i: usize) -> [i64; 4] {
-        let p = self.parent(i);
-        let (x, y) = (self.x(i) as i64, self.y(i) as i64);
-        let dx = (self.x(p) as i64 - x).signum();
-        let dy = (self.y(p) as i64 - y).signum();
-        [x, y, dx, dy]
-    }
-
-    /// The first obstacle that holds position t of a line, and the positions of the line that it holds.
-    fn stretch(&self, line: [i64; 4], t: i64) -> Option<(i64, i64)> {
-        let [x, y, dx, dy] = line;
-        let (px, py) = ((x + dx * t) as u16, (y + dy * t) as u16);
-        let corner = |o: &[u8], k: usize| u16::from_le_bytes([o[2 * k], o[2 * k + 1]]);
-        let holds = |o: &&[u8]| {
-            corner(o, 0) <= px && px <= corner(o, 2) && corner(o, 1) <= py && py <= corner(o, 3)
-        };
-        let o = self.obstacles.chunks_exact(8).find(holds)?;
-        let [x1, y1, x2, y2] = [0, 1, 2, 3].map(|k| corner(o, k) as i64);
-        Some(match (dx, dy) {
-            (1, _) => (x1 - x, x2 - x),
-            (-1, _) => (x - x2, x - x1),
-            (_, 1) => (y1 - y, y2 - y),
-            _ => (y - y2, y - y1),
-        })
-    }
-
-    pub fn barred(&self, i: usize, t: u64) -> bool {
-        self.stretch(self.line(i), t as i64).is_some()
+    pub fn barred(&self, wire: &Wire, t: u32) -> bool {
+        self.holding(wire, t).is_some()
     }
 
     /// The highest position at or below t that is not barred, or 0.
-    pub fn highest(&self, i: usize, t: u64) -> u64 {
-        let line = self.line(i);
-        let mut t = t as i64;
+    pub fn highest(&self, wire: &Wire, mut t: u32) -> u32 {
         while t > 0 {
-            match self.stretch(line, t) {
-                Some((low, _)) => t = low - 1,
-                None => return t as u64,
-            }
+            let Some([x1, y1, x2, y2]) = self.holding(wire, t) else {
+                return t;
+            };
+            // the last position below the obstacle
+            let below = match (wire.dx, wire.dy) {
+                (1, _) => i32::from(x1) - wire.x,
+                (-1, _) => wire.x - i32::from(x2),
+                (_, 1) => i32::from(y1) - wire.y,
+                _ => wire.y - i32::from(y2),
+            };
+            t = (below - 1).max(0) as u32;
         }
         0
     }
 
     /// The lowest position from 1 on and below the length that is not barred, or 0.
-    pub fn lowest(&self, i: usize) -> u64 {
-        let line = self.line(i);
-        let length = self.length(i) as i64;
+    pub fn lowest(&self, wire: &Wire) -> u32 {
         let mut t = 1;
-        while t < length {
-            match self.stretch(line, t) {
-                Some((_, high)) => t = high + 1,
-                None => return t as u64,
-            }
+        while t < wire.length {
+            let Some([x1, y1, x2, y2]) = self.holding(wire, t) else {
+                return t;
+            };
+            // the first position above the obstacle
+            let above = match (wire.dx, wire.dy) {
+                (1, _) => i32::from(x2) - wire.x,
+                (-1, _) => wire.x - i32::from(x1),
+                (_, 1) => i32::from(y2) - wire.y,
+                _ => wire.y - i32::from(y1),
+            };
+            t = (above + 1) as u32;
         }
         0
     }
 }
 
-pub fn sections(file: &[u8]) -> Result<Net<'_>, Answer> {
-    if file.len() < 28 || number16(file, 0) != 1 || number16(file, 2) != 3 {
+/// The three sections, after refusals 2 and 3.
+fn sections(file: &[u8]) -> Result<[&[u8]; 3], Answer> {
+    let Some((head, rest)) = file.split_first_chunk::<28>() else {
+        return Err(Answer::refused(2, 0));
+    };
+    if head[..4] != [1, 0, 3, 0] {
         return Err(Answer::refused(2, 0));
     }
-    let [o1, l1, o2, l2, o3, l3] = [4, 8, 12, 16, 20, 24].map(|at| number32(file, at) as u64);
-    if o1 != 28 || o2 != o1 + l1 || o3 != o2 + l2 || o3 + l3 != file.len() as u64 {
+    let (numbers, _) = head[4..].as_chunks::<4>();
+    let number = |k: usize| u64::from(u32::from_le_bytes(numbers[k]));
+    let (nodes, wires, obstacles) = (number(1), number(3), number(5));
+    let offsets = [28, 28 + nodes, 28 + nodes + wires];
+    if [number(0), number(2), number(4)] != offsets
+        || nodes + wires + obstacles != rest.len() as u64
+    {
         return Err(Answer::refused(3, 0));
     }
+    let (nodes, rest) = rest.split_at(nodes as usize);
+    let (wires, obstacles) = rest.split_at(wires as usize);
+    Ok([nodes, wires, obstacles])
+}
+
+/// The net of three sections, after refusals 4 to 11.
+fn net_of_sections<'a>([nodes, wires, obstacles]: [&'a [u8]; 3]) -> Result<Net<'a>, Answer> {
+    let (nodes, rest) = nodes.as_chunks::<5>();
+    if !rest.is_empty() || nodes.is_empty() || nodes.len() > 256 {
+        return Err(Answer::refused(4, 0));
+    }
+    let (wires, rest) = wires.as_chunks::<3>();
+    if !rest.is_empty() || wires.len() != nodes.len() - 1 {
+        return Err(Answer::refused(5, 0));
+    }
+    let (obstacles, rest) = obstacles.as_chunks::<8>();
+    if !rest.is_empty() || obstacles.len() > 256 {
+        return Err(Answer::refused(6, 0));
+    }
+    if let Some(i) = nodes.iter().position(|node| node[4] > 3) {
+        return Err(Answer::refused(7, i));
+    }
+    for i in 1..nodes.len() {
+        let [parent, layer, factor] = wires[i - 1];
+        let Some(above) = nodes[..i].get(usize::from(parent)) else {
+            return Err(Answer::refused(8, i));
+        };
+        if layer == 0 || layer > 16 || factor == 0 {
+            return Err(Answer::refused(9, i));
+        }
+        let ((x, y), (px, py)) = (place(&nodes[i]), place(above));
+        if x != px && y != py {
+            return Err(Answer::refused(10, i));
+        }
+    }
+    let reversed = |obstacle: &[u8; 8]| {
+        let [x1, y1, x2, y2] = corners(obstacle);
+        x1 > x2 || y1 > y2
+    };
+    if let Some(k) = obstacles.iter().position(reversed) {
+        return Err(Answer::refused(11, k));
+    }
     Ok(Net {
-        nodes: &file[28..o2 as usize],
-        wires: &file[o2 as usize..o3 as usize],
-        obstacles: &file[o3 as usize..],
+        nodes,
+        wires,
+        obstacles,
     })
 }
 
-/// The first of refusals 4 to 11, or none.
-pub fn refusal(net: Net) -> Option<Answer> {
-    let count = net.count();
-    if net.nodes.len() % 5 != 0 || count == 0 || count > 256 {
-        return Some(Answer::refused(4, 0));
-    }
-    if net.wires.len() != 3 * (count - 1) {
-        return Some(Answer::refused(5, 0));
-    }
-    if net.obstacles.len() % 8 != 0 || net.obstacles.len() / 8 > 256 {
-        return Some(Answer::refused(6, 0));
-    }
-    for i in 0..count {
-        if net.flags(i) > 3 {
-            return Some(Answer::refused(7, i));
-        }
-    }
-    for i in 1..count {
-        let p = net.parent(i);
-        if p >= i {
-            return Some(Answer::refused(8, i));
-        }
-        if net.layer(i) == 0 || net.layer(i) > 16 || net.factor(i) == 0 {
-            return Some(Answer::refused(9, i));
-        }
-        if net.x(i) != net.x(p) && net.y(i) != net.y(p) {
-            return Some(Answer::refused(10, i));
-        }
-    }
-    for k in 0..net.obstacles.len() / 8 {
-        let [x1, y1, x2, y2] = net.obstacle(k);
-        if x1 > x2 || y1 > y2 {
-            return Some(Answer::refused(11, k));
-        }
-    }
-    None
-}
-
 pub fn net_of(file: &[u8]) -> Result<Net<'_>, Answer> {
-    let net = sections(file)?;
-    match refusal(net) {
-        Some(refusal) => Err(refusal),
-        None => Ok(net),
-    }
+    net_of_sections(sections(file)?)
 }
 
 pub fn read(file: &[u8]) -> Answer {
@@ -189,28 +189,25 @@ pub fn read(file: &[u8]) -> Answer {
 }
 
 pub fn write(nodes: &[u8], wires: &[u8], obstacles: &[u8], out: &mut [u8]) -> Answer {
-    let net = Net {
-        nodes,
-        wires,
-        obstacles,
-    };
-    if let Some(refusal) = refusal(net) {
+    let sections = [nodes, wires, obstacles];
+    if let Err(refusal) = net_of_sections(sections) {
         return refusal;
     }
     let needed = 28 + nodes.len() + wires.len() + obstacles.len();
-    if needed > out.len() {
+    let Some(out) = out.get_mut(..needed) else {
         return Answer::refused(16, needed);
-    }
-    out[..4].copy_from_slice(&[1, 0, 3, 0]);
+    };
+    let (head, mut rest) = out.split_at_mut(28);
+    head[..4].copy_from_slice(&[1, 0, 3, 0]);
+    let (pairs, _) = head[4..].as_chunks_mut::<8>();
     let mut offset = 28;
-    for (k, section) in [nodes, wires, obstacles].into_iter().enumerate() {
-        let at = 4 + 8 * k;
-        out[at..at + 4].copy_from_slice(&(offset as u32).to_le_bytes());
-        out[at + 4..at + 8].copy_from_slice(&(section.len() as u32).to_le_bytes());
-        for (to, &byte) in out[offset..].iter_mut().zip(section) {
-            *to = byte;
-        }
+    for (pair, section) in pairs.iter_mut().zip(sections) {
+        pair[..4].copy_from_slice(&(offset as u32).to_le_bytes());
+        pair[4..].copy_from_slice(&(section.len() as u32).to_le_bytes());
         offset += section.len();
+        let (to, behind) = rest.split_at_mut(section.len());
+        to.copy_from_slice(section);
+        rest = behind;
     }
     Answer::done(needed)
 }

@@ -1,7 +1,7 @@
 //! A smallest jumper set: one pass down the node numbers and one pass up.
 //!
-//! Wires without a point that may be cut hold their nodes together in a cluster, named by its lowest node. A node whose wire has such
-//! a point is a cuttable branch of the cluster its parent is in.
+//! Wires without a point that may be cut hold their nodes together in a cluster, named by its lowest node, its root. A node whose
+//! wire has such a point is a branch of the cluster its parent is in, its host. All wire of a net weighs less than 2^32.
 
 use super::net::{net_of, Net};
 use crate::Answer;
@@ -10,61 +10,62 @@ const MOST: usize = 256;
 
 /// What no cut can change, for each node number.
 struct Clusters {
-    count: usize,
-    cuttable: [bool; MOST],
-    factor: [u64; MOST],
-    low: [u64; MOST],
-    high: [u64; MOST],
-    root: [usize; MOST],
-    host: [usize; MOST],
-    weight: [u64; MOST],
+    /// The lowest and the highest position of the wire that may be cut; 0 if there is none.
+    low: [u16; MOST],
+    high: [u16; MOST],
+    factor: [u8; MOST],
+    root: [u8; MOST],
+    /// A branch's host; otherwise the node itself, which is no node's host below it.
+    host: [u8; MOST],
+    weight: [u32; MOST],
     gate: [bool; MOST],
 }
 
+impl Clusters {
+    /// The weight of a branch's wire between the lowest and the highest point that may be cut.
+    fn between(&self, r: usize) -> u32 {
+        u32::from(self.factor[r]) * u32::from(self.high[r] - self.low[r])
+    }
+}
+
 fn clusters(net: Net, stage: u32) -> Clusters {
-    let count = net.count();
     let mut c = Clusters {
-        count,
-        cuttable: [false; MOST],
-        factor: [0; MOST],
         low: [0; MOST],
         high: [0; MOST],
+        factor: [0; MOST],
         root: [0; MOST],
         host: [0; MOST],
         weight: [0; MOST],
         gate: [false; MOST],
     };
-    let mut component = [0; MOST];
+    let mut component = [0u8; MOST];
     let mut source = [false; MOST];
-    for i in 0..count {
-        component[i] = i;
-        c.root[i] = i;
-        if i > 0 && net.layer(i) as u32 <= stage {
-            let p = net.parent(i);
-            let (length, factor) = (net.length(i), net.factor(i));
-            component[i] = component[p];
-            c.factor[i] = factor;
-            let low = net.lowest(i);
+    for (i, node) in net.nodes.iter().enumerate() {
+        component[i] = i as u8;
+        c.root[i] = i as u8;
+        c.host[i] = i as u8;
+        if i > 0 && u32::from(net.layer(i)) <= stage {
+            let wire = net.wire(i);
+            let factor = u32::from(wire.factor);
+            component[i] = component[wire.parent];
+            let above = c.root[wire.parent];
+            let low = net.lowest(&wire);
             if low > 0 {
-                let high = net.highest(i, length - 1);
-                c.cuttable[i] = true;
-                c.low[i] = low;
-                c.high[i] = high;
-                c.host[i] = c.root[p];
+                let high = net.highest(&wire, wire.length - 1);
+                (c.low[i], c.high[i], c.factor[i]) = (low as u16, high as u16, wire.factor);
+                c.host[i] = above;
                 c.weight[i] += factor * low;
-                c.weight[c.root[p]] += factor * (length - high);
+                c.weight[usize::from(above)] += factor * (wire.length - high);
             } else {
-                c.root[i] = c.root[p];
-                c.weight[c.root[p]] += factor * length;
+                c.root[i] = above;
+                c.weight[usize::from(above)] += factor * wire.length;
             }
         }
-        if net.flags(i) & 2 != 0 {
-            source[component[i]] = true;
-        }
+        source[usize::from(component[i])] |= node[4] & 2 != 0;
     }
-    for i in 0..count {
-        if net.flags(i) & 1 != 0 && !source[component[i]] {
-            c.gate[c.root[i]] = true;
+    for (i, node) in net.nodes.iter().enumerate() {
+        if node[4] & 1 != 0 && !source[usize::from(component[i])] {
+            c.gate[usize::from(c.root[i])] = true;
         }
     }
     c
@@ -73,18 +74,18 @@ fn clusters(net: Net, stage: u32) -> Clusters {
 /// What the pass down finds for each node number.
 struct Counts {
     /// Fewest points in the branch; least weight it adds with them; least weight it adds without a gate.
-    fewest: [u64; MOST],
-    adds: [u64; MOST],
-    ungated: [Option<u64>; MOST],
+    fewest: [u16; MOST],
+    adds: [u32; MOST],
+    ungated: [Option<u32>; MOST],
     any_ok: [bool; MOST],
-    closed: [u64; MOST],
+    closed: [u32; MOST],
     shut: [bool; MOST],
-    near: [u64; MOST],
-    total: u64,
+    near: [u16; MOST],
+    total: usize,
 }
 
 /// The pass down; none if no set is legal.
-fn count_pass(net: Net, c: &Clusters, limit: u64) -> Option<Counts> {
+fn count_pass(net: Net, c: &Clusters, limit: u32) -> Option<Counts> {
     let mut k = Counts {
         fewest: [0; MOST],
         adds: [0; MOST],
@@ -95,16 +96,17 @@ fn count_pass(net: Net, c: &Clusters, limit: u64) -> Option<Counts> {
         near: [0; MOST],
         total: 0,
     };
-    for r in (0..c.count).rev() {
-        if c.root[r] != r {
+    let n = net.count();
+    let hosts = &c.host[..n];
+    for r in (0..n).rev() {
+        let root = r as u8;
+        if c.root[r] != root {
             continue;
         }
-        let mut points = 0;
-        let mut sum_adds = 0;
-        let mut sum_ungated = 0;
-        let mut without = 0;
-        for j in r + 1..c.count {
-            if c.cuttable[j] && c.host[j] == r {
+        let (mut points, mut without) = (0, 0);
+        let (mut sum_adds, mut sum_ungated) = (0, 0);
+        for j in r + 1..n {
+            if hosts[j] == root {
                 points += k.fewest[j];
                 sum_adds += k.adds[j];
                 match k.ungated[j] {
@@ -113,23 +115,22 @@ fn count_pass(net: Net, c: &Clusters, limit: u64) -> Option<Counts> {
                 }
             }
         }
-        let any = if c.weight[r] > limit {
+        let fixed = c.weight[r];
+        let any = if fixed > limit {
             None
         } else {
             let mut cut = 0;
-            while c.weight[r] + sum_adds > limit {
-                let mut largest = 0;
-                for j in r + 1..c.count {
-                    if c.cuttable[j]
-                        && c.host[j] == r
-                        && !k.shut[j]
-                        && (largest == 0 || k.adds[j] > k.adds[largest])
-                    {
-                        largest = j;
+            while fixed + sum_adds > limit {
+                // the heaviest, the lowest of several; what is cut adds nothing more
+                let (mut most, mut heaviest) = (0, 0);
+                for j in r + 1..n {
+                    if hosts[j] == root && k.adds[j] > most {
+                        (most, heaviest) = (k.adds[j], j);
                     }
                 }
-                k.shut[largest] = true;
-                sum_adds -= k.adds[largest];
+                k.shut[heaviest] = true;
+                k.adds[heaviest] = 0;
+                sum_adds -= most;
                 cut += 1;
             }
             Some(cut)
@@ -141,23 +142,15 @@ fn count_pass(net: Net, c: &Clusters, limit: u64) -> Option<Counts> {
             (a, u) => (a.is_some(), u.is_some()),
         };
         points += if any_ok { any? } else { none? };
-        let ungated = if ungated_ok {
-            Some(c.weight[r] + sum_ungated)
-        } else {
-            None
-        };
-        let closed = if any_ok {
-            c.weight[r] + sum_adds
-        } else {
-            ungated?
-        };
+        let ungated = ungated_ok.then_some(fixed + sum_ungated);
+        let closed = if any_ok { fixed + sum_adds } else { ungated? };
         k.any_ok[r] = any_ok;
         k.closed[r] = closed;
-        if !c.cuttable[r] {
-            k.total += points;
+        if c.low[r] == 0 {
+            k.total += usize::from(points);
             continue;
         }
-        let between = c.factor[r] * (c.high[r] - c.low[r]);
+        let between = c.between(r);
         k.fewest[r] = points;
         match ungated {
             Some(u) => {
@@ -170,10 +163,12 @@ fn count_pass(net: Net, c: &Clusters, limit: u64) -> Option<Counts> {
             }
             None if closed + between <= limit => k.adds[r] = closed + between,
             None => {
-                let near = net.highest(r, c.low[r] + (limit - closed) / c.factor[r]);
+                let factor = u32::from(c.factor[r]);
+                let farthest = u32::from(c.low[r]) + (limit - closed) / factor;
+                let near = net.highest(&net.wire(r), farthest);
                 k.fewest[r] += 1;
-                k.near[r] = near;
-                k.adds[r] = c.factor[r] * (c.high[r] - near);
+                k.near[r] = near as u16;
+                k.adds[r] = factor * (u32::from(c.high[r]) - near);
                 k.ungated[r] = Some(k.adds[r]);
             }
         }
@@ -189,32 +184,31 @@ pub fn repair(stage: u32, limit: u32, file: &[u8], out: &mut [u8]) -> Answer {
         Ok(net) => net,
         Err(refusal) => return refusal,
     };
-    let limit = limit as u64;
     let c = clusters(net, stage);
     let Some(k) = count_pass(net, &c, limit) else {
         return Answer::refused(15, 0);
     };
-    if 3 * k.total as usize > out.len() {
-        return Answer::refused(16, 3 * k.total as usize);
+    if 3 * k.total > out.len() {
+        return Answer::refused(16, 3 * k.total);
     }
     // the pass up: which roots stay without a gate, and which points are taken
     let mut ungated = [false; MOST];
-    let mut end = 0;
-    let mut push = |wire: usize, position: u64| {
-        out[end] = wire as u8;
-        out[end + 1] = (position % 256) as u8;
-        out[end + 2] = (position / 256) as u8;
-        end += 3;
+    let mut entries = out.as_chunks_mut::<3>().0.iter_mut();
+    let mut push = |wire: usize, position: u16| {
+        if let Some(entry) = entries.next() {
+            let [low, high] = position.to_le_bytes();
+            *entry = [wire as u8, low, high];
+        }
     };
-    for r in 0..c.count {
-        if c.root[r] != r {
+    for r in 0..net.count() {
+        if usize::from(c.root[r]) != r {
             continue;
         }
-        if !c.cuttable[r] {
+        if c.low[r] == 0 {
             ungated[r] = !k.any_ok[r];
             continue;
         }
-        let above = ungated[c.host[r]];
+        let above = ungated[usize::from(c.host[r])];
         let cut = if above {
             k.ungated[r].is_none()
         } else {
@@ -225,12 +219,11 @@ pub fn repair(stage: u32, limit: u32, file: &[u8], out: &mut [u8]) -> Answer {
         } else if above && !cut {
             ungated[r] = true;
         } else {
-            let between = c.factor[r] * (c.high[r] - c.low[r]);
-            ungated[r] = !(k.any_ok[r] && k.closed[r] + between <= limit);
+            ungated[r] = !(k.any_ok[r] && k.closed[r] + c.between(r) <= limit);
         }
         if cut {
             push(r, c.high[r]);
         }
     }
-    Answer::done(end / 3)
+    Answer::done(k.total)
 }

@@ -1,54 +1,73 @@
 //! The report in one pass by rising wire number.
 
-use super::net::{net_of, Net};
+use super::net::{net_of, Net, Wire};
 use crate::Answer;
 
-fn jumper(list: &[u8], k: usize) -> (usize, u64) {
-    let b = &list[3 * k..];
-    (b[0] as usize, b[1] as u64 + 256 * b[2] as u64)
+const MOST: usize = 256;
+
+type Entry = [u8; 3];
+
+fn position(&[_, low, high]: &Entry) -> u32 {
+    u16::from_le_bytes([low, high]).into()
 }
 
-/// The first of refusals 12 to 14, or none.
-fn refusal(net: Net, stage: u32, list: &[u8]) -> Option<Answer> {
-    if list.len() % 3 != 0 {
-        return Some(Answer::refused(12, 0));
+/// Where the entries of each wire stand in the list, after refusals 12 to 14.
+fn find_runs(
+    net: Net,
+    stage: u32,
+    list: &[Entry],
+    runs: &mut [(u32, u32); MOST],
+) -> Result<(), Answer> {
+    // the entry before, and its wire; at first wire 0, which has no position
+    let (mut number, mut last, mut wire) = (0, 0, Wire::default());
+    for (k, entry) in list.iter().enumerate() {
+        let t = position(entry);
+        if entry[0] != number {
+            if entry[0] < number {
+                return Err(Answer::refused(12, k));
+            }
+            number = entry[0];
+            let i = usize::from(number);
+            if i >= net.count() || u32::from(net.layer(i)) > stage {
+                return Err(Answer::refused(13, k));
+            }
+            wire = net.wire(i);
+            runs[i].0 = k as u32;
+        } else if t <= last && k > 0 {
+            return Err(Answer::refused(12, k));
+        }
+        if t == 0 || t >= wire.length {
+            return Err(Answer::refused(13, k));
+        }
+        if net.barred(&wire, t) {
+            return Err(Answer::refused(14, k));
+        }
+        last = t;
+        runs[usize::from(number)].1 = k as u32 + 1;
     }
-    for k in 0..list.len() / 3 {
-        let (i, t) = jumper(list, k);
-        if k > 0 && jumper(list, k - 1) >= (i, t) {
-            return Some(Answer::refused(12, k));
-        }
-        if i == 0 || i >= net.count() || net.layer(i) as u32 > stage || t == 0 || t >= net.length(i)
-        {
-            return Some(Answer::refused(13, k));
-        }
-        if net.barred(i, t) {
-            return Some(Answer::refused(14, k));
-        }
-    }
-    None
+    Ok(())
 }
 
-fn write_record(
-    out: &mut [u8],
-    name: (usize, u64),
-    weight: u64,
-    flags: u8,
-    layers: u16,
-    limit: u32,
-) {
-    let harmful = flags & 3 == 1 && weight > limit as u64;
-    out[0] = name.0 as u8;
-    out[1..3].copy_from_slice(&(name.1 as u16).to_le_bytes());
-    out[3..7].copy_from_slice(&(weight as u32).to_le_bytes());
-    out[7] = flags | if harmful { 4 } else { 0 };
-    out[8..10].copy_from_slice(&layers.to_le_bytes());
-    out[10] = layers.count_ones() as u8;
-    out[11] = if layers == 0 {
-        0
-    } else {
-        layers.trailing_zeros() as u8 + 1
+fn record(number: usize, position: u32, weight: u32, flags: u8, layers: u16) -> [u8; 12] {
+    let [p0, p1] = (position as u16).to_le_bytes();
+    let [w0, w1, w2, w3] = weight.to_le_bytes();
+    let [l0, l1] = layers.to_le_bytes();
+    let count = layers.count_ones() as u8;
+    let lowest = match layers {
+        0 => 0,
+        _ => layers.trailing_zeros() as u8 + 1,
     };
+    let number = number as u8;
+    [number, p0, p1, w0, w1, w2, w3, flags, l0, l1, count, lowest]
+}
+
+/// What is known of a node, and of the piece whose lowest node it is. All wire of a net weighs less than 2^32.
+#[derive(Clone, Copy)]
+struct Part {
+    weight: u32,
+    layers: u16,
+    lowest: u8,
+    flags: u8,
 }
 
 pub fn report(stage: u32, limit: u32, file: &[u8], list: &[u8], out: &mut [u8]) -> Answer {
@@ -59,74 +78,73 @@ pub fn report(stage: u32, limit: u32, file: &[u8], list: &[u8], out: &mut [u8]) 
         Ok(net) => net,
         Err(refusal) => return refusal,
     };
-    if let Some(refusal) = refusal(net, stage, list) {
+    let (list, rest) = list.as_chunks::<3>();
+    if !rest.is_empty() {
+        return Answer::refused(12, 0);
+    }
+    let mut runs = [(0, 0); MOST];
+    if let Err(refusal) = find_runs(net, stage, list, &mut runs) {
         return refusal;
     }
-    let count = net.count();
-    let jumpers = list.len() / 3;
-    let mut piece = [0usize; 256];
-    let mut weight = [0u64; 256];
-    let mut flags = [0u8; 256];
-    let mut layers = [0u16; 256];
-    let mut first = [0usize; 257];
-    let mut present = 0;
-    let mut at = 0;
-    flags[0] = net.flags(0);
-    for i in 1..count {
-        first[i] = at;
-        while at < jumpers && jumper(list, at).0 == i {
-            at += 1;
+    let mut parts = [Part {
+        weight: 0,
+        layers: 0,
+        lowest: 0,
+        flags: 0,
+    }; MOST];
+    let parts = &mut parts[..net.count()];
+    let mut absent = 0;
+    for i in 0..parts.len() {
+        let flags = net.flags(i);
+        if i == 0 || u32::from(net.layer(i)) > stage {
+            parts[i].lowest = i as u8;
+            parts[i].flags |= flags;
+            absent += 1;
+            continue;
         }
-        piece[i] = i;
-        if net.layer(i) as u32 <= stage {
-            present += 1;
-            let above = piece[net.parent(i)];
-            let (length, factor) = (net.length(i), net.factor(i));
-            if first[i] == at {
-                piece[i] = above;
-                weight[above] += length * factor;
-            } else {
-                weight[i] += jumper(list, first[i]).1 * factor;
-                weight[above] += (length - jumper(list, at - 1).1) * factor;
-            }
-            if length > 0 {
-                let bit = 1u16 << (net.layer(i) - 1);
-                layers[piece[i]] |= bit;
-                layers[above] |= bit;
-            }
+        let wire = net.wire(i);
+        let factor = u32::from(wire.factor);
+        let layers = u16::from(wire.length > 0) << (wire.layer - 1);
+        let lowest = parts[wire.parent].lowest;
+        let above = &mut parts[usize::from(lowest)];
+        above.layers |= layers;
+        let (start, end) = runs[i];
+        if start == end {
+            above.weight += wire.length * factor;
+            above.flags |= flags;
+            parts[i].lowest = lowest;
+        } else {
+            above.weight += (wire.length - position(&list[end as usize - 1])) * factor;
+            let below = &mut parts[i];
+            below.weight += position(&list[start as usize]) * factor;
+            below.layers |= layers;
+            below.flags |= flags;
+            below.lowest = i as u8;
         }
-        flags[piece[i]] |= net.flags(i);
     }
-    first[count] = at;
-    let records = count - present + jumpers;
+    let records = absent + list.len();
     if 12 * records > out.len() {
         return Answer::refused(16, 12 * records);
     }
-    let mut end = 0;
-    for i in 0..count {
-        if piece[i] == i {
-            write_record(
-                &mut out[end..],
-                (i, 0),
-                weight[i],
-                flags[i],
-                layers[i],
-                limit,
-            );
-            end += 12;
+    let mut out = out.as_chunks_mut::<12>().0.iter_mut();
+    let mut write = |record: [u8; 12]| {
+        if let Some(place) = out.next() {
+            *place = record;
         }
-        for k in first[i] + 1..first[i + 1] {
-            let (low, high) = (jumper(list, k - 1).1, jumper(list, k).1);
-            let bit = 1u16 << (net.layer(i) - 1);
-            write_record(
-                &mut out[end..],
-                (i, low),
-                (high - low) * net.factor(i),
-                0,
-                bit,
-                limit,
-            );
-            end += 12;
+    };
+    for (i, (part, &(start, end))) in parts.iter().zip(&runs).enumerate() {
+        if usize::from(part.lowest) == i {
+            let harmful = part.flags & 3 == 1 && part.weight > limit;
+            let flags = part.flags | u8::from(harmful) << 2;
+            write(record(i, 0, part.weight, flags, part.layers));
+        }
+        if start + 1 < end {
+            let [_, layer, factor] = net.wires[i - 1];
+            for ends in list[start as usize..end as usize].windows(2) {
+                let (low, high) = (position(&ends[0]), position(&ends[1]));
+                let weight = (high - low) * u32::from(factor);
+                write(record(i, low, weight, 0, 1 << (layer - 1)));
+            }
         }
     }
     Answer::done(records)

@@ -1,0 +1,100 @@
+//! How much stack a call takes: it runs on a thread whose stack was filled with one byte, and the bytes that it changed are counted.
+
+use crate::generate::{net, Shape};
+use crate::library;
+use crate::random::Random;
+use crate::reference::report::{free_points, list_of};
+use crate::suite::repair::worst;
+use std::ffi::c_void;
+
+extern "C" {
+    fn pthread_attr_init(attributes: *mut c_void) -> i32;
+    fn pthread_attr_setstack(attributes: *mut c_void, stack: *mut c_void, size: usize) -> i32;
+    fn pthread_create(
+        thread: *mut usize,
+        attributes: *const c_void,
+        run: extern "C" fn(*mut c_void) -> *mut c_void,
+        argument: *mut c_void,
+    ) -> i32;
+    fn pthread_join(thread: usize, result: *mut *mut c_void) -> i32;
+}
+
+const SIZE: usize = 1 << 20;
+const FILL: u8 = 0xa5;
+
+extern "C" fn run<F: FnMut()>(call: *mut c_void) -> *mut c_void {
+    // SAFETY: `taken` hands over a call that lives until the thread has ended.
+    unsafe { (*call.cast::<F>())() };
+    std::ptr::null_mut()
+}
+
+/// The bytes of stack that a thread takes to run the call.
+fn taken<F: FnMut()>(mut call: F) -> usize {
+    // 16 bytes an entry, as a stack is aligned
+    let mut stack = vec![u128::from_ne_bytes([FILL; 16]); SIZE / 16];
+    let mut attributes = [0u64; 16];
+    let mut thread = 0;
+    // SAFETY: the attributes are larger than the C library's, and stack and call outlive the thread.
+    unsafe {
+        let attributes: *mut c_void = attributes.as_mut_ptr().cast();
+        assert_eq!(pthread_attr_init(attributes), 0);
+        let lent = stack.as_mut_ptr().cast();
+        assert_eq!(pthread_attr_setstack(attributes, lent, SIZE), 0);
+        let call: *mut F = &mut call;
+        let made = pthread_create(&mut thread, attributes, run::<F>, call.cast());
+        assert_eq!(made, 0);
+        assert_eq!(pthread_join(thread, std::ptr::null_mut()), 0);
+    }
+    let bytes = stack.iter().flat_map(|entry| entry.to_ne_bytes());
+    SIZE - bytes.take_while(|&byte| byte == FILL).count()
+}
+
+/// Each call with the most stack that it took, on nets of 256 nodes, and what the header says is enough.
+pub fn of_calls() -> [(&'static str, usize, usize); 4] {
+    let mut random = Random::new(4);
+    let mut nets: Vec<_> = worst().into_iter().map(|(_, net)| net).collect();
+    for obstacles in [0, 16, 256] {
+        let shape = Shape {
+            nodes: 256,
+            longest: 200,
+            obstacles,
+        };
+        nets.push(net(&mut random, shape));
+    }
+    let none = taken(|| {});
+    let mut most = [0; 4];
+    for net in nets {
+        let (file, limit) = (net.file(), (net.total_weight() / 7) as u32);
+        let sections = [
+            net.node_section(),
+            net.wire_section(),
+            net.obstacle_section(),
+        ];
+        let points: Vec<_> = free_points(&net, 16).into_iter().step_by(1000).collect();
+        let list = list_of(&points);
+        let mut out = vec![0; 12 * (256 + points.len())];
+        let calls = [
+            taken(|| assert_eq!(library::read(&file).number, 0)),
+            taken(|| {
+                let [nodes, wires, obstacles] = &sections;
+                let answer = library::write(nodes, wires, obstacles, &mut out);
+                assert!(answer.number == 0 || answer.number == 16);
+            }),
+            taken(|| assert_eq!(library::report(16, limit, &file, &list, &mut out).number, 0)),
+            taken(|| {
+                let answer = library::repair(16, limit, &file, &mut out);
+                assert!(answer.number == 0 || answer.number == 15);
+            }),
+        ];
+        for (most, taken) in most.iter_mut().zip(calls) {
+            *most = taken.max(*most);
+        }
+    }
+    let [read, write, report, repair] = most.map(|most| most - none);
+    [
+        ("read", read, library::READ_STACK),
+        ("write", write, library::WRITE_STACK),
+        ("report", report, library::REPORT_STACK),
+        ("repair", repair, library::REPAIR_STACK),
+    ]
+}
