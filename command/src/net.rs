@@ -1,7 +1,8 @@
 //! A net that the library has accepted.
 
-use crate::words::{Failure, Refusal};
-use crate::{library, text};
+use crate::library::{FLAG_GATE, FLAG_SOURCE};
+use crate::words::Refusal;
+use crate::{files, library, text};
 
 #[derive(Clone, Copy)]
 pub struct Node {
@@ -34,30 +35,65 @@ pub struct Sections {
 
 impl Net {
     /// A net file, or a net in text form.
-    pub fn load(name: &str, bytes: &[u8]) -> Result<Net, Failure> {
-        match std::str::from_utf8(bytes) {
+    pub fn load(name: &str) -> Result<Net, Refusal> {
+        let bytes = files::load(name)?;
+        match std::str::from_utf8(&bytes) {
             Ok(text) if !bytes.contains(&0) => {
                 let sections = text::sections(name, text)?;
                 Net::of_file(name, Net::write(name, &sections)?)
             }
-            _ => Net::of_file(name, bytes.to_vec()),
+            _ => Net::of_file(name, bytes),
         }
     }
 
+    pub fn parent(&self, wire: usize) -> usize {
+        self.wires[wire - 1].parent
+    }
+
+    pub fn layer(&self, wire: usize) -> u8 {
+        self.wires[wire - 1].layer
+    }
+
+    /// Is the wire made by the stage?
+    pub fn present(&self, stage: u32, wire: usize) -> bool {
+        u32::from(self.layer(wire)) <= stage
+    }
+
+    pub fn length(&self, wire: usize) -> usize {
+        let (a, b) = (self.nodes[wire], self.nodes[self.parent(wire)]);
+        usize::from(a.x.abs_diff(b.x)) + usize::from(a.y.abs_diff(b.y))
+    }
+
+    pub fn is_via(&self, wire: usize) -> bool {
+        self.length(wire) == 0
+    }
+
+    /// x and y of what lies so many steps from the wire's own node towards its parent.
+    pub fn at(&self, wire: usize, steps: f64) -> (f64, f64) {
+        let (a, b) = (self.nodes[wire], self.nodes[self.parent(wire)]);
+        let toward = |from: u16, to: u16| {
+            let direction = f64::from((i32::from(to) - i32::from(from)).signum());
+            f64::from(from) + direction * steps
+        };
+        (toward(a.x, b.x), toward(a.y, b.y))
+    }
+
     /// The net file of the sections; a refusal names the line.
-    fn write(name: &str, sections: &Sections) -> Result<Vec<u8>, Failure> {
+    fn write(name: &str, sections: &Sections) -> Result<Vec<u8>, Refusal> {
         let [nodes, wires, obstacles] = &sections.bytes;
         let needed = library::write(nodes, wires, obstacles, &mut []);
         let mut file = vec![0; needed.place as usize];
         let answer = library::write(nodes, wires, obstacles, &mut file);
-        if answer.number == 0 {
+        if answer.number == library::DONE {
             return Ok(file);
         }
         let place = answer.place as usize;
         let line = match answer.number {
-            7 => sections.lines[0].get(place),
-            8..=10 => sections.lines[1].get(place - 1),
-            11 => sections.lines[2].get(place),
+            library::REFUSED_NODE_FLAGS => sections.lines[0].get(place),
+            library::REFUSED_WIRE_PARENT..=library::REFUSED_WIRE_ENDS => {
+                sections.lines[1].get(place - 1)
+            }
+            library::REFUSED_OBSTACLE_CORNERS => sections.lines[2].get(place),
             _ => None,
         };
         Err(match line {
@@ -66,9 +102,9 @@ impl Net {
         })
     }
 
-    fn of_file(name: &str, file: Vec<u8>) -> Result<Net, Failure> {
+    fn of_file(name: &str, file: Vec<u8>) -> Result<Net, Refusal> {
         let answer = library::read(&file);
-        if answer.number != 0 {
+        if answer.number != library::DONE {
             return Err(Refusal::at(name, answer));
         }
         let number = |at: usize| u16::from_le_bytes([file[at], file[at + 1]]);
@@ -79,8 +115,8 @@ impl Net {
             .map(|at| Node {
                 x: number(at),
                 y: number(at + 2),
-                gate: file[at + 4] & 1 != 0,
-                source: file[at + 4] & 2 != 0,
+                gate: file[at + 4] & FLAG_GATE != 0,
+                source: file[at + 4] & FLAG_SOURCE != 0,
             })
             .collect();
         let wires = (wires_at..obstacles_at)

@@ -1,11 +1,12 @@
-//! Nets and jumper lists in text form.
+//! Nets in text form.
 
+use crate::library::{FLAG_GATE, FLAG_SOURCE};
 use crate::net::{Net, Sections};
-use crate::words::{Failure, Refusal};
+use crate::words::{number, Refusal};
 use std::fmt::Write;
 
 /// The words of each line that has some, with its number.
-fn lines(text: &str) -> impl Iterator<Item = (usize, Vec<&str>)> {
+pub fn lines(text: &str) -> impl Iterator<Item = (usize, Vec<&str>)> {
     text.lines()
         .enumerate()
         .map(|(k, line)| {
@@ -13,13 +14,6 @@ fn lines(text: &str) -> impl Iterator<Item = (usize, Vec<&str>)> {
             (k + 1, line.split_whitespace().collect())
         })
         .filter(|(_, words): &(usize, Vec<&str>)| !words.is_empty())
-}
-
-fn number(word: &str, most: u64) -> Result<u64, String> {
-    match word.parse::<u64>() {
-        Ok(value) if value <= most => Ok(value),
-        _ => Err(format!("'{word}' is no number from 0 to {most}")),
-    }
 }
 
 /// One record into its section.
@@ -33,8 +27,8 @@ fn record(sections: &mut Sections, line: usize, words: &[&str]) -> Result<(), St
             let mut flag = 0;
             for word in flags {
                 flag |= match *word {
-                    "gate" => 1,
-                    "source" => 2,
+                    "gate" => FLAG_GATE,
+                    "source" => FLAG_SOURCE,
                     _ => return Err(format!("'{word}' is neither 'gate' nor 'source'")),
                 };
             }
@@ -56,28 +50,28 @@ fn record(sections: &mut Sections, line: usize, words: &[&str]) -> Result<(), St
         ["node", ..] => return Err("a node is 'node N at X Y', then 'gate' or 'source'".into()),
         ["wire", ..] => return Err("a wire is 'wire N to PARENT layer L factor F'".into()),
         ["obstacle", ..] => return Err("an obstacle is 'obstacle X1 Y1 to X2 Y2'".into()),
+        ["jumpers", _] => return Err("this is a jumper list: name it by --jumpers".into()),
         _ => return Err(format!("'{}' is no node, wire or obstacle", words[0])),
     }
     Ok(())
 }
 
 fn in_turn(word: &str, due: usize) -> Result<(), String> {
-    if word.parse() == Ok(due) {
-        Ok(())
-    } else {
-        Err(format!("the next number is {due}, not '{word}'"))
+    match number(word, due as u64) {
+        Ok(value) if value == due as u64 => Ok(()),
+        _ => Err(format!("the next number is {due}, not '{word}'")),
     }
 }
 
 /// The sections of a net in text form.
-pub fn sections(name: &str, text: &str) -> Result<Sections, Failure> {
+pub fn sections(name: &str, text: &str) -> Result<Sections, Refusal> {
     let mut sections = Sections {
         bytes: [Vec::new(), Vec::new(), Vec::new()],
         lines: [Vec::new(), Vec::new(), Vec::new()],
     };
     for (line, words) in lines(text) {
         record(&mut sections, line, &words)
-            .map_err(|message| Refusal::of_text(format!("{name}:{line}: {message}")))?;
+            .map_err(|message| Refusal::text(format!("{name}:{line}: {message}")))?;
     }
     Ok(sections)
 }
@@ -102,44 +96,4 @@ pub fn net(net: &Net) -> String {
         let _ = writeln!(text, "obstacle {x1} {y1} to {x2} {y2}");
     }
     text
-}
-
-/// A jumper list from lines 'WIRE POSITION'; a line 'jumpers COUNT' may stand first.
-pub fn jumpers(name: &str, bytes: &[u8]) -> Result<Vec<u8>, Failure> {
-    let text = String::from_utf8_lossy(bytes);
-    let mut list = Vec::new();
-    for (line, words) in lines(&text) {
-        let told = |message: String| Refusal::of_text(format!("{name}:{line}: {message}"));
-        match words[..] {
-            ["jumpers", _] if list.is_empty() => {}
-            [wire, position] => {
-                list.push(number(wire, 255).map_err(told)? as u8);
-                let position = number(position, 65535).map_err(told)? as u16;
-                list.extend(position.to_le_bytes());
-            }
-            _ => return Err(told("a jumper is 'WIRE POSITION'".into())),
-        }
-    }
-    Ok(list)
-}
-
-/// The points of a jumper list.
-pub fn points(list: &[u8]) -> impl Iterator<Item = (usize, usize)> + '_ {
-    list.chunks(3)
-        .map(|b| (b[0] as usize, b[1] as usize + 256 * b[2] as usize))
-}
-
-pub fn jumpers_lines(list: &[u8]) -> String {
-    let mut text = format!("jumpers {}\n", list.len() / 3);
-    for (wire, position) in points(list) {
-        let _ = writeln!(text, "{wire} {position}");
-    }
-    text
-}
-
-pub fn jumpers_json(list: &[u8]) -> String {
-    let points: Vec<String> = points(list)
-        .map(|(wire, position)| format!("{{\"wire\": {wire}, \"position\": {position}}}"))
-        .collect();
-    format!("{{\"jumpers\": [{}]}}\n", points.join(", "))
 }

@@ -1,0 +1,73 @@
+//! What --help prints.
+
+pub const HELP: &str = "\
+antenna: charge on the pieces of a routed net, and the fewest jumpers that keep its gates safe
+
+  antenna report NET... --limit L    every piece, its weight, whether it harms a gate
+  antenna repair NET... --limit L    a smallest set of jumpers
+  antenna check NET... --limit L --jumpers FILE
+                                     is this set legal, and is it smallest
+  antenna draw NET --limit L         a picture (SVG)
+  antenna pack TEXT                  a net in text form to a net file
+  antenna unpack NET                 a net file to text form
+  antenna --version
+
+A NET is a net file or a net in text form; '-' is standard input. 'antenna COMMAND --help' says more.
+Exit status: 0 fine, 1 a harmful piece or no fix, 2 a file refused, unreadable or unwritable, or wrong use; of several nets the highest.
+A refusal is printed in words on standard error.
+";
+
+pub const REPORT: &str = "\
+antenna report NET... --limit L [--stage S] [--jumpers FILE] [--json]
+
+Prints every piece of the stage (all wires of layer at most S; default 16) with the jumpers in place: its name (its lowest
+node, or its wire and the lower of its two jumpers), weight, gate, source, harmful, and layers. Of several nets a line each.
+  --jumpers FILE   a line 'WIRE POSITION' for each jumper, after a line 'jumpers COUNT' or without; one FILE for all
+                   nets, or one for each in their order
+  --json           an object on one line for each net
+Exit status 1 if a piece is harmful: it has a gate, no source, and weighs more than L.
+";
+
+pub const REPAIR: &str = "\
+antenna repair NET... --limit L [--stage S] [--json]
+
+Prints a smallest set of jumpers, a line 'WIRE POSITION' for each, after which no piece of the stage is harmful. Position t lies
+t steps from the wire's own node towards its parent. 'report', 'check' and 'draw' take the lines by --jumpers. Of several nets a
+line each: how many jumpers.
+  --json           an object on one line for each net
+Exit status 1 if no set will do.
+";
+
+pub const CHECK: &str = "\
+antenna check NET... --limit L --jumpers FILE [--stage S] [--json]
+
+Says whether a set of jumpers is legal at the stage, and whether a smaller one is. Of several nets a line each.
+  --jumpers FILE   as in 'report'
+  --json           an object on one line for each net
+Exit status 1 if it is not legal.
+";
+
+pub const DRAW: &str = "\
+antenna draw NET --limit L [--stage S] [--jumpers FILE] [-o FILE]
+
+Draws the net as SVG: wires coloured by layer, vias, harmful pieces with their weights, gates, sources, obstacles, jumpers. Wires
+that the stage does not have are broken lines.
+  --jumpers FILE   as in 'report'
+  -o FILE          or --output FILE: where the picture goes, standard output if it is not given
+Exit status 1 if a piece is harmful; the picture is written all the same.
+";
+
+pub const PACK: &str = "\
+antenna pack TEXT [-o FILE]
+
+Turns a net in text form into a net file. A line for each record, '#' starts a comment:
+  node 0 at 10 20 gate source      nodes rise from 0; 'gate' and 'source' where they hold
+  wire 1 to 0 layer 1 factor 3     wire 1 goes from node 1 to its parent 0
+  obstacle 0 0 to 12 4             two corners, the lower one first
+";
+
+pub const UNPACK: &str = "\
+antenna unpack NET [-o FILE]
+
+Turns a net file into text form (see 'antenna pack --help').
+";
