@@ -6,21 +6,25 @@ use mathlib.Core.Path.{_≡_, refl, sym, _∙_, ap}
 use mathlib.Core.Logic.{_↔_}
 use mathlib.Core.Bool.{false}
 use mathlib.Core.List.{List}
-use lib.ListN.{length}
+use lib.ListN.{length, take, drop}
+use lib.Seq.{take-at}
 use native.Mathlib.Omega.{arith}
-use Rattle.laws.specs.Sums.{by, no-both}
+use Rattle.laws.specs.Sums.{by}
 use Rattle.net.specs.declared.Answer.{Answer}
 use Rattle.net.specs.declared.Refusal.{Refusal}
 use Rattle.net.specs.Layout.{entryBytes, mostNodes}
 use Rattle.net.specs.Stage.{Stage, stageOf}
+use Rattle.net.specs.Formed.{Formed}
 use Rattle.net.specs.Refusal.{answer, none, refusal, met, nodesOf, wiresOf, obstaclesOf}
 use Rattle.net.specs.Call.{netAt, callRefusal}
 use Rattle.net.specs.First.{unmet-number}
-use Rattle.net.specs.Accepted.{formed}
 use Rattle.net.specs.Calls.{call-right}
 use Rattle.pieces.specs.Legal.{size, listed, Smallest, NoneLegal}
+use Rattle.pieces.specs.Name.{Inside}
 use Rattle.pieces.specs.Size.{listed-size}
+use Rattle.pieces.specs.LegalByNodes.{free-inside}
 use Rattle.pieces.specs.Outer.{smallest-few}
+use Rattle.antenna.specs.AcceptedCalls.{call-formed}
 use Rattle.repairs.specs.Promise.{Judged, no-legal-set, too-short, done, Repaired}
 
 -- the count of a smallest list is the number of its points
@@ -88,26 +92,56 @@ module _ {s : Stage} {limit : ℕ} {out after : List ℕ} {r : Answer} where
       apart a b = omega arith
   counted (done l x w le e k) p list n m = let q : r .count ≡ x = unfold answer in ap (λ (a : Answer). a .count) e in q ∙ same-count w m
 
--- done: the list lies in the lent buffer
-pub list-room : {stage limit : ℕ} {file out after : List ℕ} {r : Answer} → Repaired stage limit file out after r → r .number ≡ 0 → entryBytes * r .count ≤ length out
-list-room {stage} {limit} {file} {out} {after} {r} p zero =
-    by (met (callRefusal stage file))
-    (λ m. absurd (no-both m (unmet-number (callRefusal stage file) (sym (number-of (callRefusal stage file) 0 (p .refused m .0)) ∙ zero))))
-    (λ u. at (p .judged u))
-  where
-    number-of : (q : Refusal) (n : ℕ) → r ≡ answer q n → r .number ≡ q .number
-    number-of q n e = unfold answer in ap (λ (a : Answer). a .number) e
+  -- the three answers exclude each other: whichever smallest set is listed, the answer is one
+  pub one-answer : {after′ : List ℕ} {r′ : Answer} → Judged s limit out after r → Judged s limit out after′ r′ → r ≡ r′
+  one-answer (no-legal-set f e k) (no-legal-set f′ e′ k′) = e ∙ sym e′
+  one-answer (no-legal-set f e k) (too-short l m w lt e′ k′) = absurd (f (listed l m) (w .legal))
+  one-answer (no-legal-set f e k) (done l m w le e′ k′) = absurd (f (listed l m) (w .legal))
+  one-answer (too-short l m w lt e k) (no-legal-set f e′ k′) = absurd (f (listed l m) (w .legal))
+  one-answer (too-short l m w lt e k) (too-short l′ m′ w′ lt′ e′ k′) =
+      e ∙ (ap (λ (x : ℕ). answer (refusal 16 (entryBytes * x)) 0) (same-count w w′) ∙ sym e′)
+  one-answer (too-short l m w lt e k) (done l′ m′ w′ le e′ k′) = let q = same-count w w′ in absurd (native.Mathlib.Nat.lt-irrefl 0 (omega arith))
+  one-answer (done l m w le e k) (no-legal-set f e′ k′) = absurd (f (listed l m) (w .legal))
+  one-answer (done l m w le e k) (too-short l′ m′ w′ lt e′ k′) = let q = same-count w w′ in absurd (native.Mathlib.Nat.lt-irrefl 0 (omega arith))
+  one-answer (done l m w le e k) (done l′ m′ w′ le′ e′ k′) = e ∙ (ap (answer none) (same-count w w′) ∙ sym e′)
 
-    count-of : (n : ℕ) → r ≡ answer none n → r .count ≡ n
-    count-of n e = unfold answer in ap (λ (a : Answer). a .count) e
+module _ {stage limit : ℕ} {file out after : List ℕ} {r : Answer} (p : Repaired stage limit file out after r) (zero : r .number ≡ 0) where
+  -- done: the call met none of 1 to 11
+  pub repair-unmet : met (callRefusal stage file) ≡ false
+  repair-unmet =
+      by (met (callRefusal stage file))
+      (λ m. unmet-number (callRefusal stage file) (sym (number-of (callRefusal stage file) (p .refused m .0)) ∙ zero))
+      (λ u. u)
+    where
+      number-of : (q : Refusal) → r ≡ answer q 0 → r .number ≡ q .number
+      number-of q e = unfold answer in ap (λ (a : Answer). a .number) e
 
-    apart : (number place : ℕ) → r ≡ answer (refusal (suc number) place) 0 → ⊥
-    apart number place e = let a = number-of (refusal (suc number) place) 0 e in omega arith
+  done-list : (entryBytes * r .count ≤ length out) × Smallest (netAt file stage) limit (take (entryBytes * r .count) after) (r .count)
+  done-list = at (p .judged repair-unmet)
+    where
+      apart : (number place : ℕ) → r ≡ answer (refusal (suc number) place) 0 → ⊥
+      apart number place e = let a : r .number ≡ suc number = unfold answer in ap (λ (a : Answer). a .number) e in omega arith
 
-    at : Judged (netAt file stage) limit out after r → entryBytes * r .count ≤ length out
-    at (no-legal-set f e k) = absurd (apart 14 0 e)
-    at (too-short list n m lt e k) = absurd (apart 15 (entryBytes * n) e)
-    at (done list n m le e k) = let c = count-of n e in omega arith
+      at : Judged (netAt file stage) limit out after r → (entryBytes * r .count ≤ length out) × Smallest (netAt file stage) limit (take (entryBytes * r .count) after) (r .count)
+      at (no-legal-set f e k) = absurd (apart 14 0 e)
+      at (too-short list n m lt e k) = absurd (apart 15 (entryBytes * n) e)
+      at (done list n m le e k) =
+          let c : r .count ≡ n = unfold answer in ap (λ (a : Answer). a .count) e in
+          rw (c, k, take-at list (drop (entryBytes * n) out) (entryBytes * n) (m .whole)) (le, m)
+
+  -- done: the list lies in the lent buffer, and is that of a smallest legal set
+  pub list-room : entryBytes * r .count ≤ length out
+  list-room = done-list .0
+
+  pub list-smallest : Smallest (netAt file stage) limit (take (entryBytes * r .count) after) (r .count)
+  list-smallest = done-list .1
+
+  -- what the theorems on pieces assume
+  pub repair-formed : Formed (netAt file stage)
+  repair-formed = call-formed stage file repair-unmet
+
+  pub repair-inside : Inside (netAt file stage) (listed (take (entryBytes * r .count) after) (r .count))
+  repair-inside = free-inside (netAt file stage) (listed (take (entryBytes * r .count) after) (r .count)) (list-smallest .legal .free)
 
 -- bytes for two jumpers on each wire of the largest net
 abbrev pub enoughBytes : ℕ
@@ -124,5 +158,5 @@ unfolding stageOf
 enough {stage} {limit} {file} {out} {after} {r} p u room e =
     let w = sixteen (p .judged u) .0 e in
     let right = call-right stage file u in
-    let few = smallest-few (netAt file stage) (formed (nodesOf file) (wiresOf file) (obstaclesOf file) right stage) limit (w .0) (w .1) (w .2) in
+    let few = smallest-few (netAt file stage) (call-formed stage file u) limit (w .0) (w .1) (w .2) in
     native.Mathlib.Nat.lt-irrefl 0 (omega (arith, few, w .3, room, right .sized .few-nodes))
