@@ -122,8 +122,9 @@ fn sections(file: &[u8]) -> Result<[&[u8]; 3], Answer> {
     let (numbers, _) = head[4..].as_chunks::<4>();
     let number = |k: usize| u64::from(u32::from_le_bytes(numbers[k]));
     let (nodes, wires, obstacles) = (number(1), number(3), number(5));
-    let offsets = [28, 28 + nodes, 28 + nodes + wires];
-    if [number(0), number(2), number(4)] != offsets
+    if number(0) != 28
+        || number(2) != 28 + nodes
+        || number(4) != 28 + nodes + wires
         || nodes + wires + obstacles != rest.len() as u64
     {
         return Err(Answer::refused(3, 0));
