@@ -175,8 +175,8 @@ fn shown_in_the_documents() {
     std::os::unix::fs::symlink(root().join("examples"), folder.join("examples")).unwrap();
     let built = root().join("command/target/release");
     let path = format!("{}:{}", built.display(), std::env::var("PATH").unwrap());
-    let commands = ["README.md"].map(shown).concat();
-    assert!(commands.len() >= 6);
+    let commands = ["README.md", "docs/METHOD.md"].map(shown).concat();
+    assert!(commands.len() >= 7);
     for (command, below) in commands {
         let ran = Command::new("sh")
             .args(["-c", &command])

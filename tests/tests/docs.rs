@@ -3,8 +3,8 @@
 use antenna_tests::root;
 use std::path::{Path, PathBuf};
 
-/// Words that look like paths of the repository: in backquotes, or the target of a link. Patterns and what is built are left out.
-fn paths(text: &str) -> Vec<String> {
+/// Words that look like paths of the repository: in backquotes, or the target of a link, which begins where the document is. Patterns and what is built are left out.
+fn paths(document: &str, text: &str) -> Vec<PathBuf> {
     let mut found = Vec::new();
     for quoted in text.split('`').skip(1).step_by(2) {
         let word = quoted.split_whitespace().next().unwrap_or("");
@@ -19,13 +19,13 @@ fn paths(text: &str) -> Vec<String> {
         ];
         let pattern = word.contains("NAME") || word.contains("/target/");
         if known.iter().any(|start| word.starts_with(start)) && !pattern {
-            found.push(word.to_string());
+            found.push(word.into());
         }
     }
     for link in text.split("](").skip(1) {
         let target = link.split(')').next().unwrap_or("");
         if !target.contains("://") {
-            found.push(target.to_string());
+            found.push(Path::new(document).with_file_name(target));
         }
     }
     found
@@ -36,23 +36,29 @@ fn named_files_are_there() {
     let mut checked = 0;
     for document in [
         "README.md",
+        "docs/METHOD.md",
         "docs/TRUST.md",
         "docs/DECISIONS.md",
         "docs/INTERFACE.md",
         "docs/CONTRIBUTING.md",
     ] {
         let text = std::fs::read_to_string(root().join(document)).expect(document);
-        for path in paths(&text) {
-            assert!(root().join(&path).exists(), "{document} names {path}");
+        for path in paths(document, &text) {
+            let there = root().join(&path).exists();
+            assert!(there, "{document} names {}", path.display());
             checked += 1;
         }
     }
     assert!(checked > 20);
 }
 
-/// The cells of the tables of docs/TRUST.md, a row each.
 fn rows_of_trust() -> Vec<Vec<String>> {
-    let text = std::fs::read_to_string(root().join("docs/TRUST.md")).unwrap();
+    rows("docs/TRUST.md")
+}
+
+/// The cells of the tables of a document, a row each.
+fn rows(document: &str) -> Vec<Vec<String>> {
+    let text = std::fs::read_to_string(root().join(document)).unwrap();
     let rows = text.lines().filter(|line| line.starts_with("| "));
     let cells = |row: &str| {
         let row = row.trim_matches('|');
@@ -77,11 +83,11 @@ fn declares(file: &Path, name: &str) -> bool {
         .any(|kind| text.contains(&format!("pub {kind}{name} ")))
 }
 
-/// A theorem that TRUST.md names in a file is declared there.
+/// A theorem that METHOD.md or TRUST.md names in a file is declared there.
 #[test]
 fn theorems_are_there() {
     let mut checked = 0;
-    let rows = rows_of_trust();
+    let rows = [rows("docs/METHOD.md"), rows_of_trust()].concat();
     for row in rows.iter().take_while(|row| row[0] != "wrong program") {
         let mut folder = PathBuf::new();
         let mut names = Vec::new();
