@@ -422,6 +422,12 @@ fn help_and_version() {
             ran.text
         );
     }
+    let page = std::fs::read_to_string(root().join("docs/man/antenna.1")).unwrap();
+    for word in [
+        "limit", "stage", "jumpers", "json", "output", "help", "version",
+    ] {
+        assert!(page.contains(&format!("\\-\\-{word}")), "{word}");
+    }
     let version = format!(
         "antenna {}.{}\n",
         library::VERSION_MAJOR,

@@ -51,7 +51,7 @@ impl Picture<'_> {
             }
             let names = (i..nodes.len()).filter(|&k| here(&nodes[k]));
             let names: Vec<String> = names.map(|k| k.to_string()).collect();
-            let reach = marks::reach(self.net, i, self.scale.size.gate) + 2.0;
+            let reach = marks::reach(self.net, self.stage, i, self.scale.size.gate) + 2.0;
             self.canvas
                 .label(self.scale.node(node), reach, marks::NODE, &names.join(", "));
         }

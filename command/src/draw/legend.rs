@@ -46,7 +46,7 @@ impl Item {
             Item::Source => marks::node(canvas, (x, y), r, false, true),
             Item::Node => marks::node(canvas, (x, y), r, false, false),
             Item::Via => marks::via(canvas, (x, y), r, true),
-            Item::AbsentVia => marks::via(canvas, (x, y), r, false),
+            Item::AbsentVia => marks::via(canvas, (x, y), 0.65 * r, false),
             Item::Jumper => marks::jumper(canvas, (x, y), r),
             Item::Harm => canvas.line((x - 12.0, y), (x + 12.0, y), &marks::band(16.0)),
             Item::Factor => canvas.put(format_args!(

@@ -13,13 +13,13 @@ const LAYERS: [&str; 16] = [
 pub const HARM: &str = "#d00";
 pub const JUMPER: &str = "#606";
 pub const NODE: &str = "#222";
-const ABSENT: &str = "#777";
+const ABSENT: &str = "#444";
 
 /// Half the width of a mark, as a multiple of a gate's.
 const DOT: f64 = 0.45;
 const SOURCE: f64 = 2.0;
 const VIA: f64 = 1.5;
-const ABSENT_VIA: f64 = 2.6;
+const ABSENT_VIA: f64 = 3.1;
 
 pub fn layer(layer: u8) -> &'static str {
     LAYERS[usize::from(layer) - 1]
@@ -48,14 +48,16 @@ pub const OBSTACLE: &str =
     "fill=\"#777\" fill-opacity=\"0.3\" stroke=\"#777\" stroke-width=\"0.7\"";
 
 /// How far the marks at a node's point reach from their middle, r being half the width of a gate.
-pub fn reach(net: &Net, i: usize, r: f64) -> f64 {
+pub fn reach(net: &Net, stage: u32, i: usize, r: f64) -> f64 {
     let here = |k: &usize| (net.nodes[*k].x, net.nodes[*k].y) == (net.nodes[i].x, net.nodes[i].y);
     let reach = |k: usize| {
         let node = net.nodes[k];
-        if k > 0 && net.is_via(k) {
+        if k > 0 && net.is_via(k) && !net.present(stage, k) {
             ABSENT_VIA * r
         } else if node.source {
             SOURCE * r
+        } else if k > 0 && net.is_via(k) {
+            VIA * r
         } else if node.gate {
             r
         } else {
@@ -67,8 +69,9 @@ pub fn reach(net: &Net, i: usize, r: f64) -> f64 {
 }
 
 /// What the marks of nodes take.
-pub fn areas(net: &Net, scale: &Scale) -> Vec<Area> {
-    let area = |i| square(scale.node(&net.nodes[i]), reach(net, i, scale.size.gate));
+pub fn areas(net: &Net, stage: u32, scale: &Scale) -> Vec<Area> {
+    let reach = |i| reach(net, stage, i, scale.size.gate);
+    let area = |i| square(scale.node(&net.nodes[i]), reach(i));
     (0..net.nodes.len()).map(area).collect()
 }
 

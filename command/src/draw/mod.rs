@@ -41,8 +41,8 @@ pub fn svg(case: &Case, pieces: &[Piece]) -> Result<String, Refusal> {
     let stretches =
         stretches::stretches(net, stage, &jumpers, pieces).map_err(|how| case.contradicts(&how))?;
     let scale = Scale::new(net);
-    let marks = marks::areas(net, &scale);
-    let places = places::places(net, &scale, &jumpers, &marks);
+    let marks = marks::areas(net, stage, &scale);
+    let places = places::places(net, stage, &scale, &jumpers, &marks);
     let mut lines = vec![Vec::new(); pieces.len()];
     for (piece, line) in drawn(net, &scale, &stretches, &places) {
         lines[piece].push(line);

@@ -17,14 +17,27 @@ pub struct Place {
 pub const MOST: usize = REPAIR_MOST / JUMPER_BYTES;
 
 /// A place for each jumper, clear of the marks of nodes.
-pub fn places(net: &Net, scale: &Scale, jumpers: &[(usize, usize)], marks: &[Area]) -> Vec<Place> {
+pub fn places(
+    net: &Net,
+    stage: u32,
+    scale: &Scale,
+    jumpers: &[(usize, usize)],
+    marks: &[Area],
+) -> Vec<Place> {
     let mut taken = marks.to_vec();
     let mut places = Vec::new();
     for &(wire, position) in jumpers {
         let point = scale.point(net.at(wire, position as f64));
         let mut choices = vec![(point, point)];
         if jumpers.len() <= MOST {
-            choices.extend(others(net, scale, jumpers, (wire, position)));
+            let near = if 2 * position <= net.length(wire) {
+                wire
+            } else {
+                net.parent(wire)
+            };
+            let reach = marks::reach(net, stage, near, scale.size.gate);
+            let clear = reach + scale.size.jumper + 1.0;
+            choices.extend(others(net, scale, jumpers, (wire, position), clear));
         }
         let area = |at| square(at, 0.8 * scale.size.jumper);
         let free = |at| !taken.iter().any(|other| meets(&area(at), other));
@@ -47,20 +60,15 @@ pub fn places(net: &Net, scale: &Scale, jumpers: &[(usize, usize)], marks: &[Are
     places
 }
 
-/// Where the wire may be drawn cut, and the cross, if the jumper's point is taken: the best first.
+/// Where the wire may be drawn cut, and the cross, if the jumper's point is taken: the best first, each so far from the end of the wire or from the wire.
 fn others(
     net: &Net,
     scale: &Scale,
     jumpers: &[(usize, usize)],
     (wire, position): (usize, usize),
+    clear: f64,
 ) -> Vec<((f64, f64), (f64, f64))> {
     let point = scale.point(net.at(wire, position as f64));
-    let near = if 2 * position <= net.length(wire) {
-        wire
-    } else {
-        net.parent(wire)
-    };
-    let clear = marks::reach(net, near, scale.size.gate) + scale.size.jumper + 1.0;
     let along = along(net, scale, jumpers, (wire, position), clear);
     let along = along.into_iter().map(|at| (at, at));
     along

@@ -26,14 +26,14 @@ const FEW: Size = Size {
 /// One picture fills the page.
 const MANY: Size = Size {
     side: 1000.0,
-    letters: 12.0,
+    letters: 14.0,
     gate: 4.0,
     jumper: 4.5,
     wire: 2.5,
     band: 10.0,
 };
 
-/// From this number of nodes on a node has no label.
+/// Up to this number of nodes each has a label.
 const FEW_NODES: usize = 40;
 
 pub const EDGE: f64 = 60.0;

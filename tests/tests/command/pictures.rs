@@ -105,6 +105,7 @@ fn labels_of_a_large_net() {
     ] {
         assert_eq!(picture.labels(JUMPER).count(), jumpers);
         assert_eq!(picture.labels(HARM).count(), harmful);
+        let letters = field(&picture.lines[0], "font-size");
         let labels: Vec<&String> = picture.labels("paint-order").collect();
         for (k, one) in labels.iter().enumerate() {
             for other in &labels[..k] {
@@ -113,10 +114,10 @@ fn labels_of_a_large_net() {
                 } else {
                     (other, one)
                 };
-                let wide = 7.0 * text(left).len() as f64;
+                let wide = 0.6 * letters * text(left).len() as f64;
                 let beside = field(right, "x") - field(left, "x") >= wide;
                 assert!(
-                    beside || (field(one, "y") - field(other, "y")).abs() >= 11.0,
+                    beside || (field(one, "y") - field(other, "y")).abs() >= 0.9 * letters,
                     "{one} {other}"
                 );
             }
