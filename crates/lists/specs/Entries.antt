@@ -9,7 +9,7 @@ use native.Mathlib.Omega.{arith}
 use lib.ListN.{length}
 use lib.Dec.{leb, ltb, eqb}
 use borrow.Author.Tests.{ltb-true, leb-true, eqb-true, eq-eqb, not-false}
-use Rattle.laws.specs.Sum.{χ, sum, any}
+use Rattle.laws.specs.Sum.{any}
 use Rattle.laws.specs.Sums.{and-left, and-right, and-intro, no-both, not-true-false, or-cases, any-yes, any-some, last-or-below}
 use Rattle.net.specs.Layout.{entryBytes}
 use Rattle.net.specs.Stage.{Stage}

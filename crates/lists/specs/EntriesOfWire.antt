@@ -7,7 +7,6 @@ use mathlib.Core.List.{List}
 use native.Mathlib.Omega.{arith}
 use lib.Dec.{ltb, eqb}
 use borrow.Author.Tests.{ltb-true, ltb-false, eqb-true, eqb-false}
-use Rattle.laws.specs.Sum.{highest}
 use Rattle.laws.specs.Sums.{by, not-true-false, any-yes, any-none, lowest-is, highest-is}
 use Rattle.net.specs.Stage.{Stage}
 use Rattle.pieces.specs.Name.{cutAt, firstJumper, lastJumper}

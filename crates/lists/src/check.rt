@@ -16,7 +16,6 @@ ghost use Prim.Native.Nat.{_-_, _<_};
 ghost use lib.Dec.{eqb};
 ghost use Rattle.net.specs.Refusal.{none, netRefusal};
 ghost use Rattle.net.specs.Stage.{stageOf};
-ghost use Rattle.pieces.specs.Legal.{entryWire, entryPosition};
 ghost use Rattle.pieces.specs.JumperList.{entryCount, after, pointRefusal, entryRefusal, listRefusal};
 ghost use Rattle.lists.specs.EntriesChecked.{WiresChecked, liesInside};
 

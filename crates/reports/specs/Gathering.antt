@@ -14,7 +14,7 @@ use Rattle.laws.specs.Sum.{χ, any}
 use Rattle.laws.specs.Sums.{by, and-no-right, sum-next, any-next, and-comm, or-false}
 use Rattle.laws.specs.Masks.{mask, mask-ap, mask-test, mask-or}
 use Rattle.net.specs.Layout.{mostLayers}
-use Rattle.net.specs.Net.{isGate, isSource}
+use Rattle.net.specs.Net.{isGate, isSource, nodeFlags, wireParent, wireLayer, wireFactor, wireLength}
 use Rattle.net.specs.Stage.{Stage}
 use Rattle.net.specs.Formed.{Formed}
 use Rattle.pieces.specs.Piece.{Points}
@@ -35,6 +35,19 @@ pub record Named (lowest flags lowest′ flags′ : List ℕ) (i h f : ℕ) : Ty
 pub record Added (weight layers weight′ layers′ : List ℕ) (h steps factor layer : ℕ) : Type 0 where
   pub weighed : (j : ℕ) → getD weight′ j 0 ≡ getD weight j 0 + χ (eqb h j) (steps * factor)
   pub layered : (j : ℕ) → getD layers′ j 0 ≡ bitOr (getD layers j 0) (χ (eqb h j && ltb 0 steps) (2 ^ (layer - 1)))
+
+-- wire i without a jumper: node i and all steps are added to the piece of its parent
+pub record Joined (ns ws : List ℕ) (i : ℕ) (lo w f l lo′ w′ f′ l′ : List ℕ) : Type 0 where
+  pub named : Named lo f lo′ f′ i (getD lo (wireParent ws i) 0) (nodeFlags ns i)
+  pub added : Added w l w′ l′ (getD lo (wireParent ws i) 0) (wireLength ns ws i) (wireFactor ws i) (wireLayer ws i)
+
+-- wire i with jumpers: the steps below the first are added to node i's piece, those above the last to its parent's; w₁ and l₁ are the arrays in between
+pub record Parted (ns ws : List ℕ) (i first last : ℕ) (lo w f l lo′ w′ f′ l′ : List ℕ) : Type 0 where
+  pub named : Named lo f lo′ f′ i i (nodeFlags ns i)
+  pub w₁ : List ℕ
+  pub l₁ : List ℕ
+  pub below : Added w l w₁ l₁ i first (wireFactor ws i) (wireLayer ws i)
+  pub above : Added w₁ l₁ w′ l′ (getD lo (wireParent ws i) 0) (wireLength ns ws i - last) (wireFactor ws i) (wireLayer ws i)
 
 -- an entry of a list joined with others
 pub set-or : (l : List ℕ) (h x : ℕ) → h < length l → (j : ℕ) → getD (set l h (bitOr (getD l h 0) x)) j 0 ≡ bitOr (getD l j 0) (χ (eqb h j) x)

@@ -11,3 +11,4 @@ pub mod Reporting
 pub mod StretchRecords
 pub mod Record
 pub mod Promise
+pub mod Excluded

@@ -1,7 +1,7 @@
 -- What an accepted net with an accepted list gives the passes over its wires.
 -- Assumes nothing.
-use Prim.Native.Nat.{ℕ, zero, suc, _+_, _-_, _*_, _≤_, _<_}
-use mathlib.Core.Path.{_≡_, refl, sym, _∙_}
+use Prim.Native.Nat.{ℕ, _+_, _-_, _*_, _≤_, _<_}
+use mathlib.Core.Path.{_≡_, sym, _∙_}
 use mathlib.Core.Bool.{true, false, _&&_}
 use mathlib.Core.List.{List}
 use native.Mathlib.Omega.{arith}
@@ -13,7 +13,7 @@ use Rattle.laws.specs.Sum.{χ}
 use Rattle.laws.specs.Sums.{by, no-both, and-left, χ-≤}
 use Rattle.net.specs.Layout.{wireBytes, mostNodes, mostLayers}
 use Rattle.net.specs.Limits.{lengthBound, factorBound, wireWeightBound}
-use Rattle.net.specs.Net.{nodeCount, nodeFlags, wireParent, wireLayer, wireFactor, wireLength}
+use Rattle.net.specs.Net.{nodeCount, nodeFlags, wireParent, wireLayer, wireLength}
 use Rattle.net.specs.Stage.{stageOf}
 use Rattle.net.specs.Formed.{Formed}
 use Rattle.points.specs.Cuttable.{Checked}
@@ -26,8 +26,8 @@ use Rattle.pieces.specs.JumperList.{entryCount, setOf}
 use Rattle.lists.specs.Entries.{EntriesFree, Rising, list-free, list-rising, list-set-inside}
 use Rattle.lists.specs.EntriesOfWire.{OfWire, positions-rise, position-inside, of-wire-cut, of-wire-first, of-wire-last}
 use Rattle.reports.specs.Gathered.{Gathered}
-use Rattle.reports.specs.Gathering.{Named, Added, flags-bits, gathered-absent, gathered-joined, gathered-cut}
-use Rattle.reports.specs.ListRight.{ListRight, ListAccepted, GatheredBelow, AtMost}
+use Rattle.reports.specs.Gathering.{Named, Added, Joined, Parted, flags-bits, gathered-absent, gathered-joined, gathered-cut}
+use Rattle.reports.specs.ListRight.{ListRight, ListAccepted, GatheredBelow, Roomy, AtMost}
 
 module _ (ns ws list os : List ℕ) (k : ℕ) (j : ListRight ns ws k list os) where
   pub formed-of : Formed (stageOf ns ws os k)
@@ -67,26 +67,6 @@ module _ (ns ws list os : List ℕ) (k : ℕ) (j : ListRight ns ws k list os) wh
     unfolding stageOf
     entry-inside e p q = position-inside (stageOf ns ws os k) list (entryCount list) free-of rising-of i a b w e p q
 
-    entries-spread : (d : ℕ) → a + d < b → d < entryPosition list (a + d)
-    entries-spread zero l = let p = entry-inside (a + 0) (omega arith) l in omega arith
-    entries-spread (suc d) l =
-        let p = entries-spread d (omega arith) in
-        let q = positions-rise (stageOf ns ws os k) list (entryCount list) free-of rising-of i a b w (a + d) (a + suc d) (omega arith) (omega arith) l in
-        omega arith
-
-    -- a wire has fewer of them than steps
-    pub entries-few : b ≤ a + wireLength ns ws i
-    entries-few =
-        by (ltb a b)
-        (λ y.
-        let l = ltb-true a b y in
-        let e : a + (b - 1 - a) ≡ b - 1 = omega arith in
-        let p = entries-spread (b - 1 - a) (omega arith) in
-        let q = rw e at p in
-        let r = entry-inside (b - 1) (omega arith) (omega arith) in
-        omega arith)
-        (λ z. let l = ltb-false a b z in omega arith)
-
   -- ---- steps
   module _ (i : ℕ) (inside : i < nodeCount ns) {lo w f l : List ℕ} (g : Gathered (stageOf ns ws os k) (setOf list) i lo w f l) where
     pub step-absent : {lo′ f′ : List ℕ} (flags : ℕ) → flags ≡ nodeFlags ns i → (ltb 0 i && leb (wireLayer ws i) k) ≡ false →
@@ -98,63 +78,58 @@ module _ (ns ws list os : List ℕ) (k : ℕ) (j : ListRight ns ws k list os) wh
         gathered-absent s (setOf list) formed-of inside-of i (range-of i) g flags (e ∙ flags-of i inside) absent
         (sym (lowestNode-stop s (setOf list) formed-of i (absent-apart s (setOf list) i absent))) n
 
-    module _ (a b : ℕ) (entries : OfWire list (entryCount list) i a b) (y : (ltb 0 i && leb (wireLayer ws i) k) ≡ true)
-        (above flags len factor layer : ℕ) (ae : above ≡ getD lo (wireParent ws i) 0) (fe : flags ≡ nodeFlags ns i)
-        (le : len ≡ wireLength ns ws i) (re : factor ≡ wireFactor ws i) (ye : layer ≡ wireLayer ws i)
-      where
-        present : stageOf ns ws os k .present i ≡ true
-        present = present-is i inside ∙ y
+    module _ (y : (ltb 0 i && leb (wireLayer ws i) k) ≡ true) where
+      present : stageOf ns ws os k .present i ≡ true
+      present = present-is i inside ∙ y
 
-        pub above-is : above ≡ lowestNode (stageOf ns ws os k) (setOf list) (wireParent ws i)
-        unfolding stageOf
-        above-is = ae ∙ g .lowests (wireParent ws i) (formed-of .below i present)
+      above-is : getD lo (wireParent ws i) 0 ≡ lowestNode (stageOf ns ws os k) (setOf list) (wireParent ws i)
+      unfolding stageOf
+      above-is = g .lowests (wireParent ws i) (formed-of .below i present)
 
-        pub above-inside : above < i
-        unfolding stageOf
-        above-inside =
-            let p = formed-of .below i present in
-            let q = lowestNode-≤ (stageOf ns ws os k) (setOf list) formed-of (wireParent ws i) in
-            let r = above-is in
-            omega arith
+      pub above-inside : getD lo (wireParent ws i) 0 < i
+      unfolding stageOf
+      above-inside =
+          let p = formed-of .below i present in
+          let q = lowestNode-≤ (stageOf ns ws os k) (setOf list) formed-of (wireParent ws i) in
+          let r = above-is in
+          omega arith
 
-        pub step-joined : {lo′ w′ f′ l′ : List ℕ} → a ≡ b → Named lo f lo′ f′ i above flags → Added w l w′ l′ above len factor layer →
-            Gathered (stageOf ns ws os k) (setOf list) (i + 1) lo′ w′ f′ l′
+      module _ (a b : ℕ) (entries : OfWire list (entryCount list) i a b) {lo′ w′ f′ l′ : List ℕ} where
+        pub step-joined : a ≡ b → Joined ns ws i lo w f l lo′ w′ f′ l′ → Gathered (stageOf ns ws os k) (setOf list) (i + 1) lo′ w′ f′ l′
         unfolding stageOf
-        step-joined e n d =
+        step-joined e d =
             let s = stageOf ns ws os k in
             let uncut : cutAt s (setOf list) i ≡ false = entries-cut i a b entries ∙ le-ltb a b (omega arith) in
-            gathered-joined s (setOf list) formed-of inside-of i (range-of i) g above
+            gathered-joined s (setOf list) formed-of inside-of i (range-of i) g (getD lo (wireParent ws i) 0)
             (above-is ∙ sym (lowestNode-up s (setOf list) formed-of i (joins-yes s (setOf list) i present uncut)))
-            flags (fe ∙ flags-of i inside) present uncut n (rw (← le, ← re, ← ye) d)
+            (nodeFlags ns i) (flags-of i inside) present uncut (d .named) (d .added)
 
-        pub step-cut : {lo′ w₁ l₁ w′ f′ l′ : List ℕ} → a < b → (first last : ℕ) → first ≡ entryPosition list a → last ≡ entryPosition list (b - 1) →
-            Named lo f lo′ f′ i i flags → Added w l w₁ l₁ i first factor layer → Added w₁ l₁ w′ l′ above (len - last) factor layer →
+        pub step-cut : a < b → Parted ns ws i (entryPosition list a) (entryPosition list (b - 1)) lo w f l lo′ w′ f′ l′ →
             Gathered (stageOf ns ws os k) (setOf list) (i + 1) lo′ w′ f′ l′
         unfolding stageOf
-        step-cut {lo′} {w₁} {l₁} e first last p q n c d =
+        step-cut e d =
             let s = stageOf ns ws os k in
             let cut : cutAt s (setOf list) i ≡ true = entries-cut i a b entries ∙ lt-ltb a b e in
-            gathered-cut s (setOf list) formed-of inside-of i (range-of i) g {w₁ = w₁} {l₁ = l₁} first last above flags
+            gathered-cut s (setOf list) formed-of inside-of i (range-of i) g {w₁ = d .w₁} {l₁ = d .l₁} (entryPosition list a) (entryPosition list (b - 1))
+            (getD lo (wireParent ws i) 0) (nodeFlags ns i)
             (sym (lowestNode-stop s (setOf list) formed-of i (cut-apart s (setOf list) i cut)))
             above-is
-            (p ∙ sym (of-wire-first s list (entryCount list) free-of rising-of i a b entries e))
-            (q ∙ sym (of-wire-last s list (entryCount list) free-of rising-of i a b entries e))
-            (fe ∙ flags-of i inside) present cut n (rw (← re, ← ye) c) (rw (← le, ← re, ← ye) d)
+            (sym (of-wire-first s list (entryCount list) free-of rising-of i a b entries e))
+            (sym (of-wire-last s list (entryCount list) free-of rising-of i a b entries e))
+            (flags-of i inside) present cut (d .named) (d .below) (d .above)
 
--- ---- what a step may rely on
--- of a wire that the stage has, with its entries a to b − 1
-pub record Ready (ns ws list : List ℕ) (i a b : ℕ) : Type 0 where
+-- ---- what adding wire i, which the stage has, may rely on
+pub record WireReady (ns ws : List ℕ) (i : ℕ) (lo w f l : List ℕ) : Type 0 where
   pub numbered : 0 < i
+  pub small : i < mostNodes
   pub stored : wireBytes * i ≤ length ws
   pub checked : Checked ns ws i
   pub below : wireParent ws i < i
   pub low : 1 ≤ wireLayer ws i
   pub high : wireLayer ws i ≤ mostLayers
-  pub some-node : i < mostNodes
-  pub inside : b ≤ entryCount list
-  pub first : a < b → entryPosition list a < wireLength ns ws i
-  pub last : a < b → entryPosition list (b - 1) < wireLength ns ws i
-  pub few : b ≤ a + wireLength ns ws i
+  pub above : getD lo (wireParent ws i) 0 < i
+  pub room : Roomy (i + 1) lo w f l
+  pub light : AtMost (i * (2 * wireWeightBound)) w
 
 module _ (ns ws list : List ℕ) (k : ℕ) (accepted : ListAccepted ns ws k list) (i : ℕ) (h : i < nodeCount ns) where
   pub stored-of : wireBytes * i ≤ length ws
@@ -173,32 +148,25 @@ module _ (ns ws list : List ℕ) (k : ℕ) (accepted : ListAccepted ns ws k list
         (no-both (entries-present ns ws list (accepted .0) k (accepted .1) i a b w (ltb-true a b y)) (present-is ns ws list (accepted .0) k (accepted .1) i h ∙ z)))
         (λ n. ltb-false a b n)
 
-    pub ready : (ltb 0 i && leb (wireLayer ws i) k) ≡ true → Ready ns ws list i a b
-    ready y =
-        let os = accepted .0 in
-        let j = accepted .1 in
-        let n = ltb-true 0 i (and-left (ltb 0 i) (leb (wireLayer ws i) k) y) in
-        let r = j .right .wire i n h in
-        record {
-          numbered = n;
-          stored = stored-of;
-          checked = checked-of (j .right) i n h;
-          below = r .below;
-          low = r .layer-low;
-          high = r .layer-high;
-          some-node = node-small;
-          inside = w .inside;
-          first = λ l. entry-inside ns ws list os k j i a b w a (omega arith) l .1;
-          last = λ l. entry-inside ns ws list os k j i a b w (b - 1) (omega arith) (omega arith) .1;
-          few = entries-few ns ws list os k j i a b w;
-        }
-
-    -- the piece of its upper end
-    pub above-below : {lo wt f l : List ℕ} → GatheredBelow ns ws k list i lo wt f l → (ltb 0 i && leb (wireLayer ws i) k) ≡ true →
-        getD lo (wireParent ws i) 0 < i
-    above-below {lo} g y =
-        above-inside ns ws list (accepted .0) k (accepted .1) i h (g (accepted .0) (accepted .1)) a b w y (getD lo (wireParent ws i) 0) (nodeFlags ns i)
-        (wireLength ns ws i) (wireFactor ws i) (wireLayer ws i) refl refl refl refl refl
+  pub wire-ready : {lo w f l : List ℕ} → Roomy (nodeCount ns) lo w f l → AtMost (i * (2 * wireWeightBound)) w → GatheredBelow ns ws k list i lo w f l →
+      (ltb 0 i && leb (wireLayer ws i) k) ≡ true → WireReady ns ws i lo w f l
+  wire-ready room light g y =
+      let os = accepted .0 in
+      let j = accepted .1 in
+      let n = ltb-true 0 i (and-left (ltb 0 i) (leb (wireLayer ws i) k) y) in
+      let r = j .right .wire i n h in
+      record {
+        numbered = n;
+        small = node-small;
+        stored = stored-of;
+        checked = checked-of (j .right) i n h;
+        below = r .below;
+        low = r .layer-low;
+        high = r .layer-high;
+        above = above-inside ns ws list os k j i h (g os j) y;
+        room = record { lowests = omega (arith, room .lowests); weights = omega (arith, room .weights); flagged = omega (arith, room .flagged); layered = omega (arith, room .layered) };
+        light = light;
+      }
 
 -- ---- weights stay small
 pub product-small : (a b : ℕ) → a < lengthBound → b < factorBound → a * b < wireWeightBound

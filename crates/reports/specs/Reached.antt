@@ -4,18 +4,13 @@ use Prim.Native.Nat.{ℕ, _+_, _≤_, _<_}
 use mathlib.Core.Path.{_≡_}
 use mathlib.Core.List.{List}
 use native.Mathlib.Omega.{arith}
-use lib.Dec.{ltb}
-use borrow.Author.Tests.{ltb-true, ltb-false}
 use Rattle.laws.specs.Sum.{sum, any}
-use Rattle.laws.specs.Sums.{by}
-use Rattle.net.specs.Net.{nodeCount}
-use Rattle.net.specs.Stage.{stageOf}
 use Rattle.pieces.specs.Legal.{entryWire}
 use Rattle.pieces.specs.JumperList.{entryCount}
 use Rattle.lists.specs.EntriesOfWire.{OfWire, of-wire, of-wire-next}
 use Rattle.reports.specs.Gathered.{weightBelow, flagsBelow, layersBelow}
 use Rattle.reports.specs.ListRight.{ListAccepted, GatheredBelow, AtMost}
-use Rattle.reports.specs.ListRights.{formed-of, free-of, rising-of}
+use Rattle.reports.specs.ListRights.{rising-of}
 
 -- the entries before e are those of the wires below i
 pub record Reached (list : List ℕ) (i e : ℕ) : Type 0 where
@@ -42,19 +37,6 @@ module _ (ns ws list : List ℕ) (k : ℕ) (accepted : ListAccepted ns ws k list
         before = of-wire-next list (entryCount list) (rising-of ns ws list (accepted .0) k (accepted .1)) i e end w;
         behind = λ d p q. let a = w .behind d p q in omega arith;
       }
-
-  -- after all wires there is no entry left
-  pub reached-all : (e : ℕ) → Reached list (nodeCount ns) e → e ≡ entryCount list
-  unfolding stageOf
-  reached-all e r =
-      by (ltb e (entryCount list))
-      (λ y.
-      let l = ltb-true e (entryCount list) y in
-      let f = free-of ns ws list (accepted .0) k (accepted .1) e l in
-      let n = formed-of ns ws list (accepted .0) k (accepted .1) .inside (entryWire list e) (f .present) in
-      let b = r .behind e (omega arith) l in
-      absurd (native.Mathlib.Nat.lt-irrefl 0 (omega arith)))
-      (λ z. let g = ltb-false e (entryCount list) z in omega (arith, r .inside))
 
 -- before the first wire nothing is gathered
 pub gathered-none : (ns ws list : List ℕ) (k : ℕ) (lo w f l : List ℕ) → AtMost 0 w → AtMost 0 f → AtMost 0 l → GatheredBelow ns ws k list 0 lo w f l

@@ -4,38 +4,39 @@ use Prim.Native.Nat.{ℕ, suc, _+_, _-_, _*_, _^_, _≤_, _<_}
 use mathlib.Core.Path.{_≡_}
 use mathlib.Core.List.{List}
 use native.Mathlib.Omega.{arith}
-use native.Mathlib.Nat.{mul-le-mul}
 use Rattle.laws.specs.Bytes.{le32}
 use Rattle.laws.specs.Numbers.{Bytes, le32-bytes32}
 use Rattle.laws.specs.Sum.{χ, sum}
 use Rattle.laws.specs.Sums.{by, χ-≤, sum-bound}
 use Rattle.net.specs.Layout.{wireBytes}
+use Rattle.net.specs.Limits.{factorBound, wireWeightBound}
 use Rattle.net.specs.Net.{nodeCount, wireFactor, wireLength}
 use Rattle.net.specs.Stage.{Stage, stageOf}
 use Rattle.net.specs.Accepted.{NetRight, present-positive, present-inside}
 use Rattle.points.specs.Geometry.{checked-of, length-small}
 use Rattle.pieces.specs.Piece.{Points, step, Group, weightOf}
 use Rattle.pieces.specs.Report.{Name, groupOf, recordOf}
+use Rattle.reports.specs.ListRights.{product-small}
 
 module _ (ns ws os : List ℕ) (right : NetRight ns ws os) (nodes : Bytes ns) (wires : Bytes ws) (k : ℕ) (P : Group) where
   wire-fits : (i : ℕ) →
-      χ (stageOf ns ws os k .present i) (sum (wireLength ns ws i) (λ t. χ (P (step i (suc t))) (wireFactor ws i))) ≤ 16711425
+      χ (stageOf ns ws os k .present i) (sum (wireLength ns ws i) (λ t. χ (P (step i (suc t))) (wireFactor ws i))) < wireWeightBound
   wire-fits i =
       by (stageOf ns ws os k .present i)
       (λ y.
       let checked = checked-of right i (present-positive ns ws os k i y) (present-inside ns ws os k i y) in
-      let len : wireLength ns ws i ≤ 65535 = omega (arith, length-small ns ws i nodes checked) in
-      let factor : wireFactor ws i ≤ 255 = omega (arith, wires (wireBytes * (i - 1) + 2)) in
+      let len = length-small ns ws i nodes checked in
+      let factor : wireFactor ws i < factorBound = omega (arith, wires (wireBytes * (i - 1) + 2)) in
       let most = sum-bound (wireLength ns ws i) (wireFactor ws i) {f = λ t. χ (P (step i (suc t))) (wireFactor ws i)} (λ t p. χ-≤ (P (step i (suc t))) (wireFactor ws i)) in
-      rw y (omega (arith, mul-le-mul len factor)))
+      rw y (omega (arith, product-small (wireLength ns ws i) (wireFactor ws i) len factor)))
       (λ z. rw z (omega arith))
 
   pub weight-fits : weightOf (stageOf ns ws os k) P < 2 ^ 32
   unfolding weightOf stageOf
   weight-fits =
       let most =
-      sum-bound (nodeCount ns) 16711425
-      {f = λ i. χ (stageOf ns ws os k .present i) (sum (wireLength ns ws i) (λ t. χ (P (step i (suc t))) (wireFactor ws i)))} (λ i p. wire-fits i) in
+      sum-bound (nodeCount ns) (wireWeightBound - 1)
+      {f = λ i. χ (stageOf ns ws os k .present i) (sum (wireLength ns ws i) (λ t. χ (P (step i (suc t))) (wireFactor ws i)))} (λ i p. let one = wire-fits i in omega arith) in
       omega (arith, right .sized .few-nodes)
 
 -- so the weight field of a record is the weight of its piece

@@ -12,11 +12,11 @@ ghost use Prim.Native.Nat.{_+_, _*_, _^_, _<_, _≤_};
 ghost use lib.ListN.{length, getD};
 ghost use Rattle.net.specs.Layout.{mostLayers};
 ghost use Rattle.net.specs.Limits.{wireWeightBound};
-ghost use Rattle.net.specs.Net.{nodeCount};
-ghost use Rattle.pieces.specs.JumperList.{entryCount};
-ghost use Rattle.lists.specs.EntriesOfWire.{OfWire};
-ghost use Rattle.reports.specs.Gathering.{Named, Added};
+ghost use Rattle.net.specs.Net.{nodeCount, wireLength};
+ghost use Rattle.reports.specs.Gathering.{Named, Added, Joined, Parted};
 ghost use Rattle.reports.specs.ListRight.{ListAccepted, GatheredBelow, Roomy, AtMost};
+ghost use Rattle.reports.specs.ListRights.{WireReady};
+ghost use Rattle.reports.specs.Reached.{Reached};
 
 // Node i is in the piece whose lowest node is h: its flags are joined to that piece's.
 fn name_node(lowest: &mut [usize], flags: &mut [u8], i: usize, h: usize, of_node: u8)
@@ -29,7 +29,8 @@ fn name_node(lowest: &mut [usize], flags: &mut [u8], i: usize, h: usize, of_node
 
 // Some steps of a wire are in the piece whose lowest node is h.
 fn add_steps(weight: &mut [u64], layers: &mut [u16], h: usize, steps: u32, factor: u8, layer: u8)
-    requires { ⌜ (h < length (now weight)) × (h < length (now layers)) × (1 ≤ layer) × (layer ≤ mostLayers) ⌝ }
+    requires { ⌜ (h < length (now weight)) × (h < length (now layers)) ⌝ }
+    requires { ⌜ (1 ≤ layer) × (layer ≤ mostLayers) ⌝ }
     requires { ⌜ getD (now weight) h 0 + steps * factor < 2 ^ 64 ⌝ }
     ensures { λ r. ⌜ Added (now (weight .entry)) (now (layers .entry)) (now (weight .exit)) (now (layers .exit)) h steps factor layer ⌝ }
 {
@@ -39,46 +40,87 @@ fn add_steps(weight: &mut [u64], layers: &mut [u16], h: usize, steps: u32, facto
     }
 }
 
-// Node i with its wire, whose entries in the list are those from e to end - 1.
-fn step(
+// A wire without a jumper: its steps and node i are in its parent's piece.
+fn join_wire(
+    nodes: &[u8],
+    wires: &[u8],
+    i: usize,
+    lowest: &mut [usize],
+    weight: &mut [u64],
+    flags: &mut [u8],
+    layers: &mut [u16],
+)
+    requires { ⌜ WireReady (now nodes) (now wires) i (now lowest) (now weight) (now flags) (now layers) ⌝ }
+    ensures { λ r. ⌜ Joined (now (nodes .entry)) (now (wires .entry)) i (now (lowest .entry)) (now (weight .entry)) (now (flags .entry)) (now (layers .entry)) (now (lowest .exit)) (now (weight .exit)) (now (flags .exit)) (now (layers .exit))
+        × AtMost ((i + 1) * (2 * wireWeightBound)) (now (weight .exit)) ⌝ }
+{
+    let above = lowest[wire_parent(wires, i)];
+    let len = length_of(nodes, wires, i);
+    let factor = wire_factor(wires, i);
+    let layer = wire_layer(wires, i);
+    name_node(lowest, flags, i, above, node_flags(nodes, i));
+    add_steps(weight, layers, above, len, factor, layer);
+}
+
+// A wire with jumpers: the steps below the first are in node i's piece, those above the last in its parent's.
+fn part_wire(
+    nodes: &[u8],
+    wires: &[u8],
+    i: usize,
+    first: u32,
+    last: u32,
+    lowest: &mut [usize],
+    weight: &mut [u64],
+    flags: &mut [u8],
+    layers: &mut [u16],
+)
+    requires { ⌜ WireReady (now nodes) (now wires) i (now lowest) (now weight) (now flags) (now layers) ⌝ }
+    requires { ⌜ (first < wireLength (now nodes) (now wires) i) × (last < wireLength (now nodes) (now wires) i) ⌝ }
+    ensures { λ r. ⌜ Parted (now (nodes .entry)) (now (wires .entry)) i first last (now (lowest .entry)) (now (weight .entry)) (now (flags .entry)) (now (layers .entry)) (now (lowest .exit)) (now (weight .exit)) (now (flags .exit)) (now (layers .exit))
+        × AtMost ((i + 1) * (2 * wireWeightBound)) (now (weight .exit)) ⌝ }
+{
+    let above = lowest[wire_parent(wires, i)];
+    let len = length_of(nodes, wires, i);
+    let factor = wire_factor(wires, i);
+    let layer = wire_layer(wires, i);
+    name_node(lowest, flags, i, i, node_flags(nodes, i));
+    add_steps(weight, layers, i, first, factor, layer);
+    add_steps(weight, layers, above, len - last, factor, layer);
+}
+
+// Node i with its wire, whose entries in the list begin at entry e: where they end.
+fn gather_wire(
     stage: u8,
     nodes: &[u8],
     wires: &[u8],
     jumpers: &[u8],
     i: usize,
     e: usize,
-    end: usize,
     lowest: &mut [usize],
     weight: &mut [u64],
     flags: &mut [u8],
     layers: &mut [u16],
-)
+) -> usize
     requires { ⌜ ListAccepted (now nodes) (now wires) stage (now jumpers) ⌝ }
-    requires { ⌜ (i < nodeCount (now nodes)) × OfWire (now jumpers) (entryCount (now jumpers)) i e end ⌝ }
+    requires { ⌜ (i < nodeCount (now nodes)) × Reached (now jumpers) i e ⌝ }
     requires { ⌜ Roomy (nodeCount (now nodes)) (now lowest) (now weight) (now flags) (now layers) × AtMost (i * (2 * wireWeightBound)) (now weight) ⌝ }
     requires { ⌜ GatheredBelow (now nodes) (now wires) stage (now jumpers) i (now lowest) (now weight) (now flags) (now layers) ⌝ }
-    ensures { λ r. ⌜ GatheredBelow (now (nodes .entry)) (now (wires .entry)) stage (now (jumpers .entry)) (i + 1) (now (lowest .exit)) (now (weight .exit)) (now (flags .exit)) (now (layers .exit))
-        × AtMost ((i + 1) * (2 * wireWeightBound)) (now (weight .exit)) ⌝ }
+    ensures { λ r. ⌜ Reached (now (jumpers .entry)) (i + 1) r × AtMost ((i + 1) * (2 * wireWeightBound)) (now (weight .exit))
+        × GatheredBelow (now (nodes .entry)) (now (wires .entry)) stage (now (jumpers .entry)) (i + 1) (now (lowest .exit)) (now (weight .exit)) (now (flags .exit)) (now (layers .exit)) ⌝ }
 {
-    let of_node = node_flags(nodes, i);
+    let end = entries_end(jumpers, i, e);
     if !is_present(stage, wires, i) {
-        name_node(lowest, flags, i, i, of_node);
-        return;
+        name_node(lowest, flags, i, i, node_flags(nodes, i));
+        return end;
     }
-    let above = lowest[wire_parent(wires, i)];
-    let len = length_of(nodes, wires, i);
-    let factor = wire_factor(wires, i);
-    let layer = wire_layer(wires, i);
     if e == end {
-        name_node(lowest, flags, i, above, of_node);
-        add_steps(weight, layers, above, len, factor, layer);
-        return;
+        join_wire(nodes, wires, i, lowest, weight, flags, layers);
+        return end;
     }
-    name_node(lowest, flags, i, i, of_node);
     let first = entry_position(jumpers, e);
     let last = entry_position(jumpers, end - 1);
-    add_steps(weight, layers, i, first, factor, layer);
-    add_steps(weight, layers, above, len - last, factor, layer);
+    part_wire(nodes, wires, i, first, last, lowest, weight, flags, layers);
+    end
 }
 
 // All nodes and wires by rising number.
@@ -101,21 +143,18 @@ pub fn gather(
     let mut e = 0;
     let mut i = 0;
     while i < count {
-        let end = entries_end(jumpers, i, e);
-        step(
+        e = gather_wire(
             stage,
             nodes,
             wires,
             jumpers,
             i,
             e,
-            end,
             lowest,
             weight,
             flags,
             layers,
         );
-        e = end;
         i += 1;
     }
 }

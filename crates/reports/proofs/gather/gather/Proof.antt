@@ -8,7 +8,7 @@ use borrow.Author.Needs.{needs}
 use Rattle.net.specs.Limits.{wireWeightBound}
 use Rattle.net.specs.Net.{nodeCount}
 use Rattle.reports.specs.ListRight.{GatheredBelow, AtMost}
-use Rattle.reports.specs.Reached.{Reached, reached-none, reached-wire, reached-next, gathered-none}
+use Rattle.reports.specs.Reached.{Reached, reached-none, gathered-none}
 use Rattle.reports.proofs.gather.gather.Statement.{statement}
 use Rattle.reports.proofs.gather.gather.Tie as tie
 
@@ -21,36 +21,35 @@ Inv-loop stage nodes wires jumpers lowest₀ weight₀ flags₀ layers₀ count 
 abbrev μ-loop : tie.MeasureT-loop
 μ-loop stage nodes wires jumpers lowest₀ weight₀ flags₀ layers₀ count e₀ i₀ lowest weight flags layers e i = nodeCount nodes - i
 
+abbrev start : tie.At-loop Inv-loop μ-loop → tie.Start Inv-loop μ-loop
+start c = c .before .before .before .before .before .before .before .before .before
+
 node-count-requires : tie.Need-node-count-requires Inv-loop μ-loop
 node-count-requires c κs = search needs
 
 loop-holds : tie.Need-loop-holds Inv-loop μ-loop
 loop-holds c =
     let s = c .before .before .before .before .before .before .before .before in
+    let a = s .args in
     let z = s .pre .1 .1 in (
       omega arith,
       c .node-count .ensures,
-      reached-none (s .args .jumpers .now),
+      reached-none (a .jumpers .now),
       z .0,
-      gathered-none (s .args .nodes .now) (s .args .wires .now) (s .args .jumpers .now) (s .args .stage) (s .args .lowest .now) (s .args .weight .now) (s .args .flags .now) (s .args .layers .now) (z .0) (z .1) (z .2),
+      gathered-none (a .nodes .now) (a .wires .now) (a .jumpers .now) (a .stage) (a .lowest .now) (a .weight .now) (a .flags .now) (a .layers .now) (z .0) (z .1) (z .2),
       refl,
       refl,
       refl,
       refl,
     )
 
-entries-end-requires : tie.Need-entries-end-requires Inv-loop μ-loop
-entries-end-requires c κs = c .before .loop .inv .2 .inside
-
-step-requires : tie.Need-step-requires Inv-loop μ-loop
-step-requires c κs =
-    let s = c .before .before .before .before .before .before .before .before .before .before .before .before .before .before .before in
-    let v = c .before .before .before .before .before .before .loop .inv in
-    let n = c .before .before .before .before .entries-end .ensures in
-    let w =
-    reached-wire (s .args .nodes .now) (s .args .wires .now) (s .args .jumpers .now) (s .args .stage) (s .pre .0) (c .before .before .before .before .before .before .loop .i) (c .before .before .before .before .before .before .loop .e) (c .before .before .before .before .entries-end .result) (v .2) (n .0) (n .1) (n .2) (n .3) in
-    let m = s .pre .1 .0 in
-    (s .pre .0, ((omega (arith, v .1), w), ((record { lowests = omega (arith, m .lowests, v .5); weights = omega (arith, m .weights, v .6); flagged = omega (arith, m .flagged, v .7); layered = omega (arith, m .layered, v .8) }, v .3), v .4)))
+gather-wire-requires : tie.Need-gather-wire-requires Inv-loop μ-loop
+gather-wire-requires c κs =
+    let l = c .before .before .before .before .before in
+    let p = start l .pre in
+    let m = p .1 .0 in
+    let v = l .loop .inv in
+    (p .0, ((omega (arith, v .1), v .2), ((record { lowests = omega (arith, m .lowests, v .5); weights = omega (arith, m .weights, v .6); flagged = omega (arith, m .flagged, v .7); layered = omega (arith, m .layered, v .8) }, v .3), v .4)))
 
 add-i : tie.Need-add-i Inv-loop μ-loop
 add-i c = search needs
@@ -60,21 +59,19 @@ loop-less c = search needs
 
 loop-again : tie.Need-loop-again Inv-loop μ-loop
 loop-again c =
-    let s = c .before .before .before .before .before .before .before .before .before .before .before .before .before .before .before .before .before .before .before .before .before .before .before .before in
-    let v = c .before .before .before .before .before .before .before .before .before .before .before .before .before .before .before .loop .inv in
-    let n = c .before .before .before .before .before .before .before .before .before .before .before .before .before .entries-end .ensures in
-    let t = c .before .before .before .before .before .before .before .before .step .ensures in
-    let w =
-    reached-wire (s .args .nodes .now) (s .args .wires .now) (s .args .jumpers .now) (s .args .stage) (s .pre .0) (c .before .before .before .before .before .before .before .before .before .before .before .before .before .before .before .loop .i) (c .before .before .before .before .before .before .before .before .before .before .before .before .before .before .before .loop .e) (c .before .before .before .before .before .before .before .before .before .before .before .before .before .entries-end .result) (v .2) (n .0) (n .1) (n .2) (n .3) in (
+    let w = c .before .before .before .before .before .before .before .before in
+    let v = w .before .before .before .before .before .before .loop .inv in
+    let t = w .gather-wire .ensures in
+    let k = w .gather-wire .kept .1 .1 .1 .1 .1 .1 in (
       omega (arith, v .1),
       v .1,
-      reached-next (s .args .nodes .now) (s .args .wires .now) (s .args .jumpers .now) (s .args .stage) (s .pre .0) (c .before .before .before .before .before .before .before .before .before .before .before .before .before .before .before .loop .i) (c .before .before .before .before .before .before .before .before .before .before .before .before .before .before .before .loop .e) (c .before .before .before .before .before .before .before .before .before .before .before .before .before .entries-end .result) w,
-      t .1,
       t .0,
-      c .before .before .before .before .before .before .before .before .step .kept .1 .1 .1 .1 .1 .1 .1 .0 ∙ v .5,
-      c .before .before .before .before .before .before .before .before .step .kept .1 .1 .1 .1 .1 .1 .1 .1 .0 ∙ v .6,
-      c .before .before .before .before .before .before .before .before .step .kept .1 .1 .1 .1 .1 .1 .1 .1 .1 .0 ∙ v .7,
-      c .before .before .before .before .before .before .before .before .step .kept .1 .1 .1 .1 .1 .1 .1 .1 .1 .1 .0 ∙ v .8,
+      t .1,
+      t .2,
+      k .0 ∙ v .5,
+      k .1 .0 ∙ v .6,
+      k .1 .1 .0 ∙ v .7,
+      k .1 .1 .1 .0 ∙ v .8,
     )
 
 same-length : tie.Need-same-length Inv-loop μ-loop
@@ -91,9 +88,8 @@ same-length-4 c = c .before .loop .inv .8
 
 returns : tie.Need-returns Inv-loop μ-loop
 returns c =
-    let s = c .before .before .before .before .before .before .before .before .before .before in
     let v = c .before .loop .inv in
-    let q : c .before .loop .i ≡ nodeCount (s .args .nodes .now) = omega (arith, v .0, v .1) in
+    let q : c .before .loop .i ≡ nodeCount (start (c .before) .args .nodes .now) = omega (arith, v .0, v .1) in
     rw q at (v .4)
 
 pub gather-spec : {M : Type 1} → statement M
@@ -104,8 +100,7 @@ gather-spec =
     μ-loop
     node-count-requires
     loop-holds
-    entries-end-requires
-    step-requires
+    gather-wire-requires
     add-i
     loop-less
     loop-again
