@@ -1,15 +1,19 @@
 -- What climbing a branch's wire establishes.
 -- Assumes nothing.
-use Prim.Native.Nat.{ℕ, _+_, _-_, _*_, _^_, _≤_, _<_}
+use Prim.Native.Nat.{ℕ, _+_, _-_, _*_, _≤_, _<_}
 use mathlib.Core.Path.{_≡_}
 use mathlib.Core.Bool.{Bool, true, false, not, _&&_}
 use mathlib.Core.List.{List}
 use lib.Dec.{leb, ltb}
+use Rattle.net.specs.Layout.{mostNodes}
+use Rattle.net.specs.Limits.{weightBound}
 use Rattle.net.specs.Net.{wireFactor, wireLength, barred}
 use Rattle.points.specs.Cuttable.{Checked}
 use Rattle.clusters.specs.Stretch.{stretchWeight}
 use Rattle.cuts.specs.Cluster.{Clusters}
-use Rattle.cuts.specs.Passes.{Down}
+use Rattle.cuts.specs.Passes.{Down, Climbed}
+use Rattle.counting.specs.declared.close.Closing.{Closing}
+use Rattle.counting.specs.declared.climb.Climbing.{Climbing}
 
 -- position t lies inside wire i, and no obstacle holds it
 unfoldable pub openAt : List ℕ → List ℕ → List ℕ → ℕ → ℕ → Bool
@@ -46,25 +50,34 @@ wireOf ns ws os lo hi =
     }
 
 -- what climbing a wire finds, beside what closing its cluster found
-abbrev pub climbingOf : ℕ → ℕ → Bool → ℕ → ℕ → ℕ → Bool → ℕ → ℕ → Down
-climbingOf fewest anyWeight ungatedOk ungatedWeight count lightest hasUngated ungated near =
+abbrev pub climbingOf : Closing → Climbing → Down
+climbingOf x y =
     record {
       cutAny = λ j. false;
-      fewest = λ r. fewest;
+      fewest = λ r. x .fewest;
       anyOk = λ r. false;
-      anyWeight = λ r. anyWeight;
-      ungatedOk = λ r. ungatedOk;
-      ungatedWeight = λ r. ungatedWeight;
-      count = λ j. count;
-      lightest = λ j. lightest;
-      hasUngated = λ j. hasUngated;
-      ungated = λ j. ungated;
-      near = λ j. near;
+      anyWeight = λ r. x .«any_weight»;
+      ungatedOk = λ r. x .«ungated_ok»;
+      ungatedWeight = λ r. x .«ungated_weight»;
+      count = λ j. y .count;
+      lightest = λ j. y .lightest;
+      hasUngated = λ j. y .«has_ungated»;
+      ungated = λ j. y .ungated;
+      near = λ j. y .near;
     }
 
--- the numbers of a closed cluster fit in 64 bits, and without the ungated option its weight is within the limit
-pub record Closable (limit fewest anyWeight : ℕ) (ungatedOk : Bool) (ungatedWeight : ℕ) : Type 0 where
-  pub few : fewest < 2 ^ 32
-  pub light : anyWeight < 2 ^ 48
-  pub ungated-light : ungatedOk ≡ true → ungatedWeight < 2 ^ 48
-  pub within : ungatedOk ≡ false → anyWeight ≤ limit
+-- the numbers of a closed cluster are small, and without the ungated option its weight is within the limit
+pub record Closable (limit : ℕ) (x : Closing) : Type 0 where
+  pub few : x .fewest ≤ 3 * mostNodes
+  pub light : x .«any_weight» < weightBound
+  pub ungated-light : x .«ungated_ok» ≡ true → x .«ungated_weight» < weightBound
+  pub within : x .«ungated_ok» ≡ false → x .«any_weight» ≤ limit
+
+-- what climbing the wire of branch i establishes
+abbrev pub Climbs : List ℕ → List ℕ → List ℕ → ℕ → ℕ → ℕ → ℕ → Closing → Climbing → Type 0
+Climbs ns ws os i lo hi limit x y = Climbed (wireOf ns ws os lo hi) limit (climbingOf x y) i
+
+-- the same of any wire i: without a point that may be cut it has no jumper
+pub record ClimbsAt (ns ws os : List ℕ) (i lo hi limit : ℕ) (x : Closing) (y : Climbing) : Type 0 where
+  pub climbed : 0 < lo → Climbs ns ws os i lo hi limit x y
+  pub none : lo ≡ 0 → y .near ≡ 0

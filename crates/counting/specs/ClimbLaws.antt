@@ -11,9 +11,11 @@ use borrow.Author.Tests.{leb-true, ltb-true, le-leb, lt-ltb, lt-leb, not-true}
 use Rattle.laws.specs.Sums.{by, no-both, and-left, and-right}
 use Rattle.net.specs.Net.{wireFactor, wireLength, barred}
 use Rattle.points.specs.Cuttable.{Highest}
-use Rattle.cuts.specs.Passes.{Climbed, without-gate, within-limit, with-jumper}
+use Rattle.cuts.specs.Passes.{without-gate, within-limit, with-jumper}
 use Rattle.clusters.specs.Stretch.{stretchWeight}
-use Rattle.counting.specs.Climb.{openAt, Branch, LastWithin, wireOf, climbingOf}
+use Rattle.counting.specs.declared.close.Closing.{Closing}
+use Rattle.counting.specs.declared.climb.Climbing.{Climbing}
+use Rattle.counting.specs.Climb.{openAt, Branch, LastWithin, Climbs}
 
 module _ (ns ws os : List ℕ) (i : ℕ) where
   pub open-low : (t : ℕ) → openAt ns ws os i t ≡ true → 1 ≤ t
@@ -88,37 +90,34 @@ pub steps-inside :
 steps-inside ns ws os i lo hi weight limit b w l =
     let z = steps-fewer (limit - weight) (wireFactor ws i) (hi - lo) (omega (arith, b .factor)) (omega arith) in omega arith
 
-module _ (ns ws os : List ℕ) (i lo hi limit fewest anyWeight ungatedWeight : ℕ) where
+-- ---- the endings of a climb
+module _ (ns ws os : List ℕ) (i lo hi limit : ℕ) (x : Closing) (y : Climbing) where
   pub climbs-light :
-      (span u : ℕ) →
-      span ≡ stretchWeight ws i lo hi →
-      u ≡ ungatedWeight + span →
-      anyWeight + span ≤ limit →
-      Climbed (wireOf ns ws os lo hi) limit (climbingOf fewest anyWeight true ungatedWeight fewest (anyWeight + span) true u 0) i
-  climbs-light span u s e h =
-      without-gate refl refl refl refl (omega arith) (let z : anyWeight + stretchWeight ws i lo hi ≤ limit = omega arith in rw (le-leb _ _ z) (omega arith))
+      x .«ungated_ok» ≡ true →
+      x .«any_weight» + stretchWeight ws i lo hi ≤ limit →
+      y ≡ record { count = x .fewest; lightest = x .«any_weight» + stretchWeight ws i lo hi; «has_ungated» = true; ungated = x .«ungated_weight» + stretchWeight ws i lo hi; near = 0 } →
+      Climbs ns ws os i lo hi limit x y
+  climbs-light o h e = rw e (without-gate o refl refl refl refl (rw (le-leb _ _ h)))
 
   pub climbs-ungated :
-      (span u : ℕ) →
-      span ≡ stretchWeight ws i lo hi →
-      u ≡ ungatedWeight + span →
-      limit < anyWeight + span →
-      Climbed (wireOf ns ws os lo hi) limit (climbingOf fewest anyWeight true ungatedWeight fewest u true u 0) i
-  climbs-ungated span u s e h =
-      without-gate refl refl refl refl (omega arith) (let z : limit < anyWeight + stretchWeight ws i lo hi = omega arith in rw (lt-leb _ _ z))
+      x .«ungated_ok» ≡ true →
+      limit < x .«any_weight» + stretchWeight ws i lo hi →
+      y ≡ record { count = x .fewest; lightest = x .«ungated_weight» + stretchWeight ws i lo hi; «has_ungated» = true; ungated = x .«ungated_weight» + stretchWeight ws i lo hi; near = 0 } →
+      Climbs ns ws os i lo hi limit x y
+  climbs-ungated o h e = rw e (without-gate o refl refl refl refl (rw (lt-leb _ _ h)))
 
   pub climbs-within :
-      (span u : ℕ) →
-      span ≡ stretchWeight ws i lo hi →
-      anyWeight + span ≤ limit →
-      Climbed (wireOf ns ws os lo hi) limit (climbingOf fewest anyWeight false ungatedWeight fewest (anyWeight + span) false u 0) i
-  climbs-within span u s h = within-limit refl (omega arith) refl refl refl (omega arith)
+      x .«ungated_ok» ≡ false →
+      x .«any_weight» + stretchWeight ws i lo hi ≤ limit →
+      y ≡ record { count = x .fewest; lightest = x .«any_weight» + stretchWeight ws i lo hi; «has_ungated» = false; ungated = 0; near = 0 } →
+      Climbs ns ws os i lo hi limit x y
+  climbs-within o h e = rw e (within-limit o h refl refl refl refl)
 
   pub climbs-jumper :
-      (span near u : ℕ) →
-      span ≡ stretchWeight ws i lo hi →
-      limit < anyWeight + span →
-      LastWithin ns ws os i lo hi anyWeight limit near →
-      u ≡ stretchWeight ws i near hi →
-      Climbed (wireOf ns ws os lo hi) limit (climbingOf fewest anyWeight false ungatedWeight (fewest + 1) u true u near) i
-  climbs-jumper span near u s h l e = with-jumper refl (omega arith) refl (l .is-open) (l .within) (l .highest) refl e refl
+      (near : ℕ) →
+      x .«ungated_ok» ≡ false →
+      limit < x .«any_weight» + stretchWeight ws i lo hi →
+      LastWithin ns ws os i lo hi (x .«any_weight») limit near →
+      y ≡ record { count = x .fewest + 1; lightest = stretchWeight ws i near hi; «has_ungated» = true; ungated = stretchWeight ws i near hi; near = near } →
+      Climbs ns ws os i lo hi limit x y
+  climbs-jumper near o h l e = rw e (with-jumper o h refl (l .is-open) (l .within) (l .highest) refl refl refl)

@@ -122,20 +122,20 @@ flagged-few n lo host r flags =
     omega arith
 
 -- ---- the heaviest branch that is not cut
-module _ (lo host lightest : List ℕ) (cut : List Bool) (r : ℕ) where
-  pub heaviest-none : (at : ℕ) → HungAbove lo host r → Heaviest (r + 1) lo host lightest cut r at 0
+module _ (lo host lightest : List ℕ) (cutAny : List Bool) (r : ℕ) where
+  pub heaviest-none : (at : ℕ) → HungAbove lo host r → Heaviest (r + 1) lo host lightest cutAny r at 0
   heaviest-none at above = record { most = λ j p h k. absurd (no-both h (above j (omega arith))); one = inl refl }
 
   pub heaviest-yes :
       (j at weight : ℕ) →
-      Heaviest j lo host lightest cut r at weight →
-      heavierThan lo host lightest cut r weight j ≡ true →
-      Heaviest (j + 1) lo host lightest cut r j (getD lightest j 0)
+      Heaviest j lo host lightest cutAny r at weight →
+      heavierThan lo host lightest cutAny r weight j ≡ true →
+      Heaviest (j + 1) lo host lightest cutAny r j (getD lightest j 0)
   heaviest-yes j at weight v t =
-      let h = and-left (hung lo host r j) (not (getD cut j false) && ltb weight (getD lightest j 0)) t in
-      let q = and-right (hung lo host r j) (not (getD cut j false) && ltb weight (getD lightest j 0)) t in
-      let k = borrow.Author.Tests.not-true (getD cut j false) (and-left (not (getD cut j false)) (ltb weight (getD lightest j 0)) q) in
-      let w = ltb-true weight (getD lightest j 0) (and-right (not (getD cut j false)) (ltb weight (getD lightest j 0)) q) in
+      let h = and-left (hung lo host r j) (not (getD cutAny j false) && ltb weight (getD lightest j 0)) t in
+      let q = and-right (hung lo host r j) (not (getD cutAny j false) && ltb weight (getD lightest j 0)) t in
+      let k = borrow.Author.Tests.not-true (getD cutAny j false) (and-left (not (getD cutAny j false)) (ltb weight (getD lightest j 0)) q) in
+      let w = ltb-true weight (getD lightest j 0) (and-right (not (getD cutAny j false)) (ltb weight (getD lightest j 0)) q) in
       record {
         most = λ i p a b.
             by (eqb i j)
@@ -145,14 +145,14 @@ module _ (lo host lightest : List ℕ) (cut : List Bool) (r : ℕ) where
       }
 
   -- a branch that fails the test is cut or not heavier
-  not-heavier : (weight j : ℕ) → heavierThan lo host lightest cut r weight j ≡ false → hung lo host r j ≡ true → getD cut j false ≡ false → getD lightest j 0 ≤ weight
+  not-heavier : (weight j : ℕ) → heavierThan lo host lightest cutAny r weight j ≡ false → hung lo host r j ≡ true → getD cutAny j false ≡ false → getD lightest j 0 ≤ weight
   not-heavier weight j t h k = ltb-false weight (getD lightest j 0) (rw (h, k) at t)
 
   pub heaviest-no :
       (j at weight : ℕ) →
-      Heaviest j lo host lightest cut r at weight →
-      heavierThan lo host lightest cut r weight j ≡ false →
-      Heaviest (j + 1) lo host lightest cut r at weight
+      Heaviest j lo host lightest cutAny r at weight →
+      heavierThan lo host lightest cutAny r weight j ≡ false →
+      Heaviest (j + 1) lo host lightest cutAny r at weight
   heaviest-no j at weight v t =
       record {
         most = λ i p a b.

@@ -14,9 +14,13 @@ use Rattle.laws.specs.Sums.{and-left, and-right, not-true-false}
 use Rattle.cuts.specs.Passes.{Down}
 use Rattle.cuts.specs.Bounds.{sums-bounded}
 use Rattle.clusters.specs.Arrays.{downOf}
-use Rattle.counting.specs.Close.{hung, HungAbove, branchSum, flaggedSum, Room, Closes, branchesOf, closingOf}
-use Rattle.counting.specs.Climb.{Branch, wireOf, climbingOf}
-use Rattle.counting.specs.Count.{workClusters, Ready, Unmarked, ClimbsAt, CountedFrom}
+use Rattle.counting.specs.declared.close.Cluster.{Cluster}
+use Rattle.counting.specs.declared.close.Closing.{Closing}
+use Rattle.counting.specs.declared.climb.Climbing.{Climbing}
+use Rattle.counting.specs.Lengths.{BranchArrays, Lengths}
+use Rattle.counting.specs.Close.{hung, HungAbove, NoneCut, branchSum, flaggedSum, Room, Closes, branchesOf, closingOf}
+use Rattle.counting.specs.Climb.{Branch, ClimbsAt, wireOf, climbingOf}
+use Rattle.counting.specs.Count.{workClusters, Ready, Unmarked, CountedFrom}
 use Rattle.counting.specs.CountFrame.{SameCluster, SameBranch, closed-same, climbed-same}
 use Rattle.counting.specs.CountStep.{Turn, counted-step}
 
@@ -29,6 +33,10 @@ put-same f r x = rw (eq-eqb r r refl)
 
 put-other : {A : Type 0} (f : ℕ → A) (r j : ℕ) (x : A) → j ≢ r → put f r x j ≡ f j
 put-other f r j x ne = rw (ne-eqb j r ne)
+
+-- cluster r by the work arrays
+abbrev pub clusterAt : List ℕ → List ℕ → ℕ → Cluster
+clusterAt fixed gates r = record { lowest = r; fixed = getD fixed r 0; gates = getD gates r 0 }
 
 module _ (n : ℕ) (ns ws os lo hi host fixed gates : List ℕ) (ready : Ready n ns ws os lo hi host fixed gates) where
   -- a cuttable wire has its lowest and highest open position
@@ -57,37 +65,31 @@ module _ (n : ℕ) (ns ws os lo hi host fixed gates : List ℕ) (ready : Ready n
   hung-above r p j l = not-true-false (hung lo host r j) (λ h. let b = hung-higher r j (omega arith) h in omega arith)
 
   -- marks
-  pub unmarked-branches :
-      (cut : List Bool) (r : ℕ) →
-      Unmarked n lo host cut (r + 1) →
-      (j : ℕ) →
-      j < n →
-      hung lo host r j ≡ true →
-      getD cut j false ≡ false
-  unmarked-branches cut r u j p h =
+  pub unmarked-branches : (cutAny : List Bool) (r : ℕ) → Unmarked n lo host cutAny (r + 1) → NoneCut n lo host cutAny r
+  unmarked-branches cutAny r u j p h =
       let e = eqb-true (getD host j 0) r (and-right (ltb 0 (getD lo j 0)) (eqb (getD host j 0) r) h) in
       u j p (ltb-true 0 (getD lo j 0) (and-left (ltb 0 (getD lo j 0)) (eqb (getD host j 0) r) h)) (omega arith)
 
   pub unmarked-less :
-      (before cut : List Bool) (r : ℕ) →
+      (before cutAny : List Bool) (r : ℕ) →
       Unmarked n lo host before (r + 1) →
-      ((j : ℕ) → hung lo host r j ≡ false → getD cut j false ≡ getD before j false) →
-      Unmarked n lo host cut r
-  unmarked-less before cut r u k j p l h =
+      ((j : ℕ) → hung lo host r j ≡ false → getD cutAny j false ≡ getD before j false) →
+      Unmarked n lo host cutAny r
+  unmarked-less before cutAny r u k j p l h =
       let ne : eqb (getD host j 0) r ≡ false = ne-eqb (getD host j 0) r (λ e. omega arith) in
       k j (Rattle.laws.specs.Sums.and-no-right (ltb 0 (getD lo j 0)) ne) ∙ u j p l (omega arith)
 
   -- the numbers of cluster r fit
   pub room-of :
-      (limit : ℕ) (cut : List Bool) (fewest : List ℕ) (anyOk : List Bool) (anyWeight count lightest : List ℕ)
+      (limit : ℕ) (cutAny : List Bool) (fewest : List ℕ) (anyOk : List Bool) (anyWeight count lightest : List ℕ)
       (hasUngated : List Bool) (ungated near : List ℕ) (r : ℕ) →
       r < n →
-      CountedFrom (workClusters n ns ws os lo hi host fixed gates) limit cut fewest anyOk anyWeight count lightest hasUngated ungated near (r + 1) →
-      Room n lo host count lightest hasUngated ungated r (getD fixed r 0)
+      CountedFrom (workClusters n ns ws os lo hi host fixed gates) limit cutAny fewest anyOk anyWeight count lightest hasUngated ungated near (r + 1) →
+      Room n lo host count lightest hasUngated ungated (clusterAt fixed gates r)
   unfolding workClusters downOf branchSum flaggedSum
-  room-of limit cut fewest anyOk anyWeight count lightest hasUngated ungated near r p k =
+  room-of limit cutAny fewest anyOk anyWeight count lightest hasUngated ungated near r p k =
       let c = workClusters n ns ws os lo hi host fixed gates in
-      let d = downOf cut fewest anyOk anyWeight (k .ungatedOk) (k .ungatedWeight) count lightest hasUngated ungated near in
+      let d = downOf cutAny fewest anyOk anyWeight (k .ungatedOk) (k .ungatedWeight) count lightest hasUngated ungated near in
       let b = sums-bounded c limit d (ready .sound) (r + 1) (k .counted) r (omega arith) p in
       record {
         few = omega (arith, ready .few);
@@ -99,27 +101,22 @@ module _ (n : ℕ) (ns ws os lo hi host fixed gates : List ℕ) (ready : Ready n
   -- the arrays before and after a turn at r
   module _
       (limit r : ℕ) (inside : r < n)
-      (cut₀ cut : List Bool) (fewest₀ : List ℕ) (anyOk₀ : List Bool) (anyWeight₀ : List ℕ)
-      (count₀ lightest₀ : List ℕ) (hasUngated₀ : List Bool) (ungated₀ near₀ count lightest : List ℕ) (hasUngated : List Bool) (ungated near : List ℕ)
-      (fewest : ℕ) (anyOk : Bool) (anyWeight : ℕ) (ungatedOk : Bool) (ungatedWeight : ℕ) (hopeless : Bool)
-      (closes : Closes n lo host count₀ lightest₀ hasUngated₀ ungated₀ cut₀ cut r (getD fixed r 0) (getD gates r 0) limit fewest anyOk anyWeight ungatedOk ungatedWeight hopeless)
-      (goes-on : hopeless ≡ false)
-      (climbs : ClimbsAt ns ws os lo hi r limit fewest anyWeight ungatedOk ungatedWeight count₀ lightest₀ hasUngated₀ ungated₀ near₀ count lightest hasUngated ungated near)
-      (l1 : n ≤ length fewest₀) (l2 : n ≤ length anyOk₀) (l3 : n ≤ length anyWeight₀)
-      (k : CountedFrom (workClusters n ns ws os lo hi host fixed gates) limit cut₀ fewest₀ anyOk₀ anyWeight₀ count₀ lightest₀ hasUngated₀ ungated₀ near₀ (r + 1)) where
+      (cutAny₀ cutAny anyOk₀ : List Bool) (anyWeight₀ : List ℕ) (hasUngated₀ : List Bool) (near₀ fewest₀ count₀ lightest₀ ungated₀ : List ℕ) (x : Closing) (y : Climbing)
+      (closes : Closes n lo host count₀ lightest₀ hasUngated₀ ungated₀ cutAny₀ cutAny (clusterAt fixed gates r) limit x)
+      (climbs : ClimbsAt ns ws os r (getD lo r 0) (getD hi r 0) limit x y)
+      (lengths : Lengths n lo hi host fixed gates cutAny₀ anyOk₀ anyWeight₀ hasUngated₀ near₀ fewest₀)
+      (branches : BranchArrays n count₀ lightest₀ hasUngated₀ ungated₀)
+      (k : CountedFrom (workClusters n ns ws os lo hi host fixed gates) limit cutAny₀ fewest₀ anyOk₀ anyWeight₀ count₀ lightest₀ hasUngated₀ ungated₀ near₀ (r + 1)) where
     old : Down
-    old = downOf cut₀ fewest₀ anyOk₀ anyWeight₀ (k .ungatedOk) (k .ungatedWeight) count₀ lightest₀ hasUngated₀ ungated₀ near₀
+    old = downOf cutAny₀ fewest₀ anyOk₀ anyWeight₀ (k .ungatedOk) (k .ungatedWeight) count₀ lightest₀ hasUngated₀ ungated₀ near₀
 
     new : Down
     new =
-        downOf cut (set fewest₀ r fewest) (set anyOk₀ r anyOk) (set anyWeight₀ r anyWeight) (put (k .ungatedOk) r ungatedOk) (put (k .ungatedWeight) r ungatedWeight)
-        count lightest hasUngated ungated near
+        downOf cutAny (set fewest₀ r (x .fewest)) (set anyOk₀ r (x .«any_ok»)) (set anyWeight₀ r (x .«any_weight»)) (put (k .ungatedOk) r (x .«ungated_ok»)) (put (k .ungatedWeight) r (x .«ungated_weight»))
+        (set count₀ r (y .count)) (set lightest₀ r (y .lightest)) (set hasUngated₀ r (y .«has_ungated»)) (set ungated₀ r (y .ungated)) (set near₀ r (y .near))
 
     same-here :
-        SameCluster (branchesOf n lo host (getD fixed r 0) (getD gates r 0)) (workClusters n ns ws os lo hi host fixed gates)
-        (closingOf cut count₀ lightest₀ hasUngated₀ ungated₀ fewest anyOk anyWeight ungatedOk ungatedWeight)
-        new
-        r
+        SameCluster (branchesOf n lo host (clusterAt fixed gates r)) (workClusters n ns ws os lo hi host fixed gates) (closingOf cutAny count₀ lightest₀ hasUngated₀ ungated₀ x) new r
     unfolding new workClusters downOf
     same-here =
         record {
@@ -128,22 +125,18 @@ module _ (n : ℕ) (ns ws os lo hi host fixed gates : List ℕ) (ready : Ready n
           fixed = refl;
           gates = refl;
           cutAny = λ j p h. refl;
-          count = λ j p h. climbs .counts j (λ z. let b = hung-higher r j p h in omega arith);
-          lightest = λ j p h. climbs .lights j (λ z. let b = hung-higher r j p h in omega arith);
-          hasUngated = λ j p h. climbs .flags j (λ z. let b = hung-higher r j p h in omega arith);
-          ungated = λ j p h. climbs .ungateds j (λ z. let b = hung-higher r j p h in omega arith);
-          fewest = getD-set-same fewest₀ r fewest 0 (omega arith);
-          anyOk = getD-set-same anyOk₀ r anyOk false (omega arith);
-          anyWeight = getD-set-same anyWeight₀ r anyWeight 0 (omega arith);
-          ungatedOk = put-same (k .ungatedOk) r ungatedOk;
-          ungatedWeight = put-same (k .ungatedWeight) r ungatedWeight;
+          count = λ j p h. getD-set-other count₀ r j (y .count) 0 (λ z. let b = hung-higher r j p h in omega arith);
+          lightest = λ j p h. getD-set-other lightest₀ r j (y .lightest) 0 (λ z. let b = hung-higher r j p h in omega arith);
+          hasUngated = λ j p h. getD-set-other hasUngated₀ r j (y .«has_ungated») false (λ z. let b = hung-higher r j p h in omega arith);
+          ungated = λ j p h. getD-set-other ungated₀ r j (y .ungated) 0 (λ z. let b = hung-higher r j p h in omega arith);
+          fewest = getD-set-same fewest₀ r (x .fewest) 0 (omega (arith, lengths .fewests));
+          anyOk = getD-set-same anyOk₀ r (x .«any_ok») false (omega (arith, lengths .anys));
+          anyWeight = getD-set-same anyWeight₀ r (x .«any_weight») 0 (omega (arith, lengths .any-weights));
+          ungatedOk = put-same (k .ungatedOk) r (x .«ungated_ok»);
+          ungatedWeight = put-same (k .ungatedWeight) r (x .«ungated_weight»);
         }
 
-    same-wire :
-        SameBranch (wireOf ns ws os (getD lo r 0) (getD hi r 0)) (workClusters n ns ws os lo hi host fixed gates)
-        (climbingOf fewest anyWeight ungatedOk ungatedWeight (getD count r 0) (getD lightest r 0) (getD hasUngated r false) (getD ungated r 0) (getD near r 0))
-        new
-        r
+    same-wire : SameBranch (wireOf ns ws os (getD lo r 0) (getD hi r 0)) (workClusters n ns ws os lo hi host fixed gates) (climbingOf x y) new r
     unfolding new workClusters downOf
     same-wire =
         record {
@@ -151,62 +144,57 @@ module _ (n : ℕ) (ns ws os lo hi host fixed gates : List ℕ) (ready : Ready n
           factor = refl;
           lo = refl;
           hi = refl;
-          fewest = getD-set-same fewest₀ r fewest 0 (omega arith);
-          anyWeight = getD-set-same anyWeight₀ r anyWeight 0 (omega arith);
-          ungatedOk = put-same (k .ungatedOk) r ungatedOk;
-          ungatedWeight = put-same (k .ungatedWeight) r ungatedWeight;
-          count = refl;
-          lightest = refl;
-          hasUngated = refl;
-          ungated = refl;
-          near = refl;
+          fewest = getD-set-same fewest₀ r (x .fewest) 0 (omega (arith, lengths .fewests));
+          anyWeight = getD-set-same anyWeight₀ r (x .«any_weight») 0 (omega (arith, lengths .any-weights));
+          ungatedOk = put-same (k .ungatedOk) r (x .«ungated_ok»);
+          ungatedWeight = put-same (k .ungatedWeight) r (x .«ungated_weight»);
+          count = getD-set-same count₀ r (y .count) 0 (omega (arith, branches .counts));
+          lightest = getD-set-same lightest₀ r (y .lightest) 0 (omega (arith, branches .lights));
+          hasUngated = getD-set-same hasUngated₀ r (y .«has_ungated») false (omega (arith, branches .flags));
+          ungated = getD-set-same ungated₀ r (y .ungated) 0 (omega (arith, branches .weights));
+          near = getD-set-same near₀ r (y .near) 0 (omega (arith, lengths .nears));
         }
 
-    turn :
-        Turn (workClusters n ns ws os lo hi host fixed gates) limit old new r
+    turn : Turn (workClusters n ns ws os lo hi host fixed gates) limit old new r
     unfolding old new workClusters downOf
     turn =
         record {
           marks = closes .others;
           others = λ j ne.
               record {
-                fewest = getD-set-other fewest₀ r j fewest 0 ne;
-                anyOk = getD-set-other anyOk₀ r j anyOk false ne;
-                anyWeight = getD-set-other anyWeight₀ r j anyWeight 0 ne;
-                ungatedOk = put-other (k .ungatedOk) r j ungatedOk ne;
-                ungatedWeight = put-other (k .ungatedWeight) r j ungatedWeight ne;
-                count = climbs .counts j ne;
-                lightest = climbs .lights j ne;
-                hasUngated = climbs .flags j ne;
-                ungated = climbs .ungateds j ne;
-                near = climbs .nears j ne;
+                fewest = getD-set-other fewest₀ r j (x .fewest) 0 ne;
+                anyOk = getD-set-other anyOk₀ r j (x .«any_ok») false ne;
+                anyWeight = getD-set-other anyWeight₀ r j (x .«any_weight») 0 ne;
+                ungatedOk = put-other (k .ungatedOk) r j (x .«ungated_ok») ne;
+                ungatedWeight = put-other (k .ungatedWeight) r j (x .«ungated_weight») ne;
+                count = getD-set-other count₀ r j (y .count) 0 ne;
+                lightest = getD-set-other lightest₀ r j (y .lightest) 0 ne;
+                hasUngated = getD-set-other hasUngated₀ r j (y .«has_ungated») false ne;
+                ungated = getD-set-other ungated₀ r j (y .ungated) 0 ne;
+                near = getD-set-other near₀ r j (y .near) 0 ne;
               };
-          closed = closed-same same-here limit (closes .closed goes-on);
-          climbed = λ y. climbed-same same-wire limit (climbs .climbed (ltb-true 0 (getD lo r 0) y));
-          no-near = λ y. climbs .none (let z = ltb-false 0 (getD lo r 0) y in omega arith);
+          closed = closed-same same-here limit (closes .closed);
+          climbed = λ l. climbed-same same-wire limit (climbs .climbed (ltb-true 0 (getD lo r 0) l));
+          no-near = λ l. getD-set-same near₀ r (y .near) 0 (omega (arith, lengths .nears)) ∙ climbs .none (let z = ltb-false 0 (getD lo r 0) l in omega arith);
         }
 
     pub counted-turn :
-        {fewests : List ℕ} {oks : List Bool} {weights : List ℕ} →
-        fewests ≡ set fewest₀ r fewest →
-        oks ≡ set anyOk₀ r anyOk →
-        weights ≡ set anyWeight₀ r anyWeight →
-        CountedFrom (workClusters n ns ws os lo hi host fixed gates) limit cut fewests oks weights count lightest hasUngated ungated near r
+        CountedFrom (workClusters n ns ws os lo hi host fixed gates) limit cutAny (set fewest₀ r (x .fewest)) (set anyOk₀ r (x .«any_ok»)) (set anyWeight₀ r (x .«any_weight»))
+        (set count₀ r (y .count)) (set lightest₀ r (y .lightest)) (set hasUngated₀ r (y .«has_ungated»)) (set ungated₀ r (y .ungated)) (set near₀ r (y .near)) r
     unfolding old new
-    counted-turn a b c =
-        rw (a, b, c)
-        (record {
-          ungatedOk = put (k .ungatedOk) r ungatedOk;
-          ungatedWeight = put (k .ungatedWeight) r ungatedWeight;
+    counted-turn =
+        record {
+          ungatedOk = put (k .ungatedOk) r (x .«ungated_ok»);
+          ungatedWeight = put (k .ungatedWeight) r (x .«ungated_weight»);
           counted = counted-step (workClusters n ns ws os lo hi host fixed gates) limit old new (ready .sound) r turn (k .counted);
-        })
+        }
 
   -- before the first turn
   pub counted-none :
-      (limit : ℕ) (cut : List Bool) (fewest : List ℕ) (anyOk : List Bool) (anyWeight count lightest : List ℕ) (hasUngated : List Bool) (ungated near : List ℕ) →
-      CountedFrom (workClusters n ns ws os lo hi host fixed gates) limit cut fewest anyOk anyWeight count lightest hasUngated ungated near n
+      (limit : ℕ) (cutAny : List Bool) (fewest : List ℕ) (anyOk : List Bool) (anyWeight count lightest : List ℕ) (hasUngated : List Bool) (ungated near : List ℕ) →
+      CountedFrom (workClusters n ns ws os lo hi host fixed gates) limit cutAny fewest anyOk anyWeight count lightest hasUngated ungated near n
   unfolding workClusters
-  counted-none limit cut fewest anyOk anyWeight count lightest hasUngated ungated near =
+  counted-none limit cutAny fewest anyOk anyWeight count lightest hasUngated ungated near =
       record {
         ungatedOk = λ r. false;
         ungatedWeight = λ r. 0;

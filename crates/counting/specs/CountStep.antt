@@ -1,6 +1,6 @@
 -- One turn of the pass down: from the clusters above r to those from r on.
 -- Assumes nothing.
-use Prim.Native.Nat.{ℕ, _+_, _^_, _≤_, _<_}
+use Prim.Native.Nat.{ℕ, _+_, _≤_, _<_}
 use mathlib.Core.Path.{_≡_, refl, _∙_}
 use mathlib.Core.Logic.{_≢_}
 use mathlib.Core.Bool.{Bool, true, false, not, _&&_}
@@ -13,6 +13,9 @@ use Rattle.laws.specs.Sum.{χ}
 use Rattle.laws.specs.Sums.{by, no-both, and-left, and-right, χ-≤, χ-and, χ-mono, sum-≤, sum-bound}
 use Rattle.cuts.specs.Cluster.{Clusters, Sound, hangs}
 use Rattle.cuts.specs.Passes.{Down, Closed, only-any, both, only-ungated, Climbed, Counted, anyCuts, ungatedCuts, anyLeft}
+use Rattle.net.specs.Limits.{weightBound}
+use Rattle.counting.specs.declared.close.Cluster.{Cluster}
+use Rattle.counting.specs.declared.close.Closing.{Closing}
 use Rattle.counting.specs.Close.{hung, branchSum, flaggedSum, Room, branchesOf, closingOf}
 use Rattle.counting.specs.Climb.{Closable}
 use Rattle.counting.specs.CountFrame.{SameCluster, SameBranch, closed-same, climbed-same}
@@ -117,37 +120,34 @@ module _ (c : Clusters) (limit : ℕ) (d d′ : Down) (s : Sound c) (r : ℕ) (t
             t .others q (λ z. omega arith) .near ∙ k .no-near q (omega arith) p y);
       }
 
--- a closed cluster's numbers fit, and without the ungated option its weight is within the limit
+-- a closed cluster's numbers are small, and without the ungated option its weight is within the limit
 module _
-    (n : ℕ) (lo host count lightest : List ℕ) (hasUngated : List Bool) (ungated : List ℕ) (cut : List Bool) (r fixed gates limit : ℕ)
-    (fewest : ℕ) (anyOk : Bool) (anyWeight : ℕ) (ungatedOk : Bool) (ungatedWeight : ℕ)
-    (room : Room n lo host count lightest hasUngated ungated r fixed) where
-  few-any : anyCuts (branchesOf n lo host fixed gates) (closingOf cut count lightest hasUngated ungated fewest anyOk anyWeight ungatedOk ungatedWeight) r ≤ n
+    (n : ℕ) (lo host count lightest : List ℕ) (hasUngated : List Bool) (ungated : List ℕ) (cutAny : List Bool) (k : Cluster) (limit : ℕ) (x : Closing)
+    (room : Room n lo host count lightest hasUngated ungated k) where
+  few-any : anyCuts (branchesOf n lo host k) (closingOf cutAny count lightest hasUngated ungated x) (k .lowest) ≤ n
   few-any =
-      let a = sum-bound n 1 {f = λ j. χ (hung lo host r j && getD cut j false) 1} (λ j p. χ-≤ (hung lo host r j && getD cut j false) 1) in omega arith
+      let a = sum-bound n 1 {f = λ j. χ (hung lo host (k .lowest) j && getD cutAny j false) 1} (λ j p. χ-≤ (hung lo host (k .lowest) j && getD cutAny j false) 1) in omega arith
 
-  few-ungated : ungatedCuts (branchesOf n lo host fixed gates) (closingOf cut count lightest hasUngated ungated fewest anyOk anyWeight ungatedOk ungatedWeight) r ≤ n
+  few-ungated : ungatedCuts (branchesOf n lo host k) (closingOf cutAny count lightest hasUngated ungated x) (k .lowest) ≤ n
   few-ungated =
       let a =
-      sum-bound n 1 {f = λ j. χ (hung lo host r j && not (getD hasUngated j false)) 1} (λ j p. χ-≤ (hung lo host r j && not (getD hasUngated j false)) 1) in
+      sum-bound n 1 {f = λ j. χ (hung lo host (k .lowest) j && not (getD hasUngated j false)) 1} (λ j p. χ-≤ (hung lo host (k .lowest) j && not (getD hasUngated j false)) 1) in
       omega arith
 
-  any-light : anyLeft (branchesOf n lo host fixed gates) (closingOf cut count lightest hasUngated ungated fewest anyOk anyWeight ungatedOk ungatedWeight) r < 2 ^ 48
+  any-light : anyLeft (branchesOf n lo host k) (closingOf cutAny count lightest hasUngated ungated x) (k .lowest) < weightBound
   unfolding branchSum
   any-light =
       let a =
       sum-≤ n
-      {f = λ j. χ (hung lo host r j && not (getD cut j false)) (getD lightest j 0)}
-      {g = λ j. χ (hung lo host r j) (getD lightest j 0)}
+      {f = λ j. χ (hung lo host (k .lowest) j && not (getD cutAny j false)) (getD lightest j 0)}
+      {g = λ j. χ (hung lo host (k .lowest) j) (getD lightest j 0)}
       (λ j p.
-      let b = χ-and (hung lo host r j) (not (getD cut j false)) (getD lightest j 0) in
-      let c = χ-mono (hung lo host r j) {x = χ (not (getD cut j false)) (getD lightest j 0)} {y = getD lightest j 0} (λ h. χ-≤ (not (getD cut j false)) (getD lightest j 0)) in
+      let b = χ-and (hung lo host (k .lowest) j) (not (getD cutAny j false)) (getD lightest j 0) in
+      let c = χ-mono (hung lo host (k .lowest) j) {x = χ (not (getD cutAny j false)) (getD lightest j 0)} {y = getD lightest j 0} (λ h. χ-≤ (not (getD cutAny j false)) (getD lightest j 0)) in
       omega arith) in
       omega (arith, room .weights)
 
-  pub closable :
-      Closed (branchesOf n lo host fixed gates) limit (closingOf cut count lightest hasUngated ungated fewest anyOk anyWeight ungatedOk ungatedWeight) r →
-      Closable limit fewest anyWeight ungatedOk ungatedWeight
+  pub closable : Closed (branchesOf n lo host k) limit (closingOf cutAny count lightest hasUngated ungated x) (k .lowest) → Closable limit x
   unfolding branchSum flaggedSum
   closable (only-any θ l g f a u w) =
       record {

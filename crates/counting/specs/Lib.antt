@@ -1,3 +1,4 @@
+pub mod Lengths
 pub mod Close
 pub mod CloseSums
 pub mod CloseCutting
@@ -8,4 +9,4 @@ pub mod ClimbLaws
 pub mod Count
 pub mod CountStep
 pub mod CountArrays
-pub mod CountStored
+pub mod CountTotal

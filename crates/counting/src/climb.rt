@@ -3,20 +3,16 @@ use crate::close::Closing;
 use clusters::stretch::stretch_weight;
 use clusters::stretch::weight_of_step;
 use points::highest_cuttable;
-ghost use mathlib.Core.Path.{_≡_};
-ghost use Prim.Native.Nat.{_+_, _*_, _<_, _≤_};
-ghost use lib.ListN.{length};
-ghost use Rattle.net.specs.Layout.{wireBytes};
-ghost use Rattle.net.specs.Net.{wireFactor};
-ghost use Rattle.cuts.specs.Passes.{Climbed};
+ghost use Prim.Native.Nat.{_+_, _<_, _≤_};
 ghost use Rattle.clusters.specs.Stretch.{stretchWeight};
-ghost use Rattle.counting.specs.Climb.{Branch, LastWithin, wireOf, climbingOf, Closable};
+ghost use Rattle.counting.specs.Climb.{Branch, LastWithin, Climbs, ClimbsAt, Closable};
 
-// What climbing a branch's wire finds: the fewest points below and on it; the least weight that it then adds to its host; the least without a gate, if that can be had; its own jumper, or 0.
+// What climbing a branch's wire finds: the fewest points below and on it; the least weight that it then adds to its host; the least without a gate, if that can be had, else 0;
+// the position of its own jumper, or 0 for none.
 pub struct Climbing {
     pub count: u64,
     pub lightest: u64,
-    pub ungatable: bool,
+    pub has_ungated: bool,
     pub ungated: u64,
     pub near: u64,
 }
@@ -41,7 +37,7 @@ fn last_within(
 }
 
 // Climbs the wire of branch i, whose cluster is closed.
-pub fn climb(
+fn climb(
     nodes: &[u8],
     wires: &[u8],
     obstacles: &[u8],
@@ -52,19 +48,18 @@ pub fn climb(
     limit: u64,
 ) -> Climbing
     requires { ⌜ Branch (now nodes) (now wires) (now obstacles) i lo hi ⌝ }
-    requires { ⌜ Closable limit (x .fewest) (x .anyweight) (x .ungated) (x .ungatedweight) ⌝ }
-    ensures { λ y. ⌜ Climbed (wireOf (now (nodes .entry)) (now (wires .entry)) (now (obstacles .entry)) lo hi) limit
-        (climbingOf (x .fewest) (x .anyweight) (x .ungated) (x .ungatedweight) (y .count) (y .lightest) (y .ungatable) (y .ungated) (y .near)) i ⌝ }
+    requires { ⌜ Closable limit x ⌝ }
+    ensures { λ y. ⌜ Climbs (now (nodes .entry)) (now (wires .entry)) (now (obstacles .entry)) i lo hi limit x y ⌝ }
 {
     let span = stretch_weight(wires, i, lo, hi);
-    let any = x.anyweight + span;
-    if x.ungated {
-        let ungated = x.ungatedweight + span;
+    let any = x.any_weight + span;
+    if x.ungated_ok {
+        let ungated = x.ungated_weight + span;
         if any <= limit {
             return Climbing {
                 count: x.fewest,
                 lightest: any,
-                ungatable: true,
+                has_ungated: true,
                 ungated,
                 near: 0,
             };
@@ -72,7 +67,7 @@ pub fn climb(
         return Climbing {
             count: x.fewest,
             lightest: ungated,
-            ungatable: true,
+            has_ungated: true,
             ungated,
             near: 0,
         };
@@ -81,18 +76,45 @@ pub fn climb(
         return Climbing {
             count: x.fewest,
             lightest: any,
-            ungatable: false,
+            has_ungated: false,
             ungated: 0,
             near: 0,
         };
     }
-    let near = last_within(nodes, wires, obstacles, i, lo, hi, x.anyweight, limit);
+    let near = last_within(nodes, wires, obstacles, i, lo, hi, x.any_weight, limit);
     let rest = stretch_weight(wires, i, near, hi);
     Climbing {
         count: x.fewest + 1,
         lightest: rest,
-        ungatable: true,
+        has_ungated: true,
         ungated: rest,
         near,
+    }
+}
+
+// Climbs wire i, if it has a point that may be cut; lo is 0 if it has none.
+pub fn climb_at(
+    nodes: &[u8],
+    wires: &[u8],
+    obstacles: &[u8],
+    i: usize,
+    lo: u64,
+    hi: u64,
+    x: Closing,
+    limit: u64,
+) -> Climbing
+    requires { ⌜ (0 < lo → Branch (now nodes) (now wires) (now obstacles) i lo hi) ⌝ }
+    requires { ⌜ Closable limit x ⌝ }
+    ensures { λ y. ⌜ ClimbsAt (now (nodes .entry)) (now (wires .entry)) (now (obstacles .entry)) i lo hi limit x y ⌝ }
+{
+    if 0 < lo {
+        return climb(nodes, wires, obstacles, i, lo, hi, x, limit);
+    }
+    Climbing {
+        count: 0,
+        lightest: 0,
+        has_ungated: false,
+        ungated: 0,
+        near: 0,
     }
 }

@@ -1,10 +1,10 @@
 -- From the passes of repair to its promise: what each pass requires follows from those before it, and all together give a smallest legal set or show that there is none.
 -- Assumes nothing.
-use Prim.Native.Nat.{ℕ, zero, suc, _+_, _*_, _^_, _≤_, _<_}
+use Prim.Native.Nat.{ℕ, _+_, _*_, _^_, _≤_, _<_}
 use mathlib.Core.Path.{_≡_, refl, sym, _∙_, ap}
 use mathlib.Core.Bool.{Bool, true, false, not, _&&_}
 use mathlib.Core.List.{List, _++_}
-use lib.ListN.{length, getD, drop, replicate}
+use lib.ListN.{length, getD, drop}
 use lib.Dec.{leb, ltb}
 use native.Mathlib.Omega.{arith}
 use borrow.Author.Tests.{lt-ltb}
@@ -29,7 +29,7 @@ use Rattle.cuts.specs.BridgeFits.{sound-of-fits}
 use Rattle.cuts.specs.BridgeRun.{hopeless-none}
 use Rattle.clusters.specs.Arrays.{clustersOf, downOf, upOf}
 use Rattle.counting.specs.Climb.{openAt}
-use Rattle.counting.specs.Count.{workClusters, Ready, CountedAll, Hopeless, rootSum}
+use Rattle.counting.specs.Count.{workClusters, Ready, CountedAll, rootSum}
 use Rattle.choice.specs.Choose.{Chooses, Choosable}
 use Rattle.choice.specs.ChooseLaws.{chosen-of}
 use Rattle.repairs.specs.Promise.{Judged, too-short, done}
@@ -37,6 +37,13 @@ use Rattle.listing.specs.Listing.{listOf, countOf}
 use Rattle.listing.specs.ListingWriting.{length-listOf}
 use Rattle.listing.specs.ListingPoints.{Listable}
 use Rattle.listing.specs.ListingSmallest.{listable, smallest-list, count-is-total}
+
+-- a cluster with a gate has more fixed weight than the limit
+pub record Hopeless (n : ℕ) (fixed gates : List ℕ) (limit : ℕ) : Type 0 where
+  pub at : ℕ
+  pub inside : at < n
+  pub gated : 0 < getD gates at 0
+  pub heavy : limit < getD fixed at 0
 
 -- what both passes leave for the writer of the list: its entries are those of a smallest legal set
 pub record Planned (s : Stage) (limit : ℕ) (hi near : List ℕ) (high : List Bool) (points : ℕ) : Type 0 where
@@ -69,21 +76,15 @@ module _ (ns ws os : List ℕ) (k : ℕ) (right : NetRight ns ws os) (lo hi host
   -- what the pass down requires
   pub ready-of :
       allWeight (clustersOf (stageOf ns ws os k) lo hi host fixed gates) < 2 ^ 48 →
-      nodeCount ns ≤ length lo → nodeCount ns ≤ length hi → nodeCount ns ≤ length host → nodeCount ns ≤ length fixed → nodeCount ns ≤ length gates →
       Ready (nodeCount ns) ns ws os lo hi host fixed gates
   unfolding allWeight workClusters clustersOf stageOf
-  ready-of light a b c d e =
+  ready-of light =
       record {
         sound = sound-work;
-        few = omega (arith, right .sized .few-nodes);
+        few = right .sized .few-nodes;
         light = light;
         checked = λ j p q. checked-of right j p q;
         factor = λ j p q. right .wire j p q .factor-low;
-        los = a;
-        his = b;
-        hosts = c;
-        fixeds = d;
-        gate-counts = e;
       }
 
   -- a hopeless cluster: 15
@@ -93,11 +94,11 @@ module _ (ns ws os : List ℕ) (k : ℕ) (right : NetRight ns ws os) (lo hi host
       hopeless-none (stageOf ns ws os k) (clustersOf (stageOf ns ws os k) lo hi host fixed gates) root component is-formed fits limit (h .at) (h .inside) (h .gated) (h .heavy)
 
   module _ (limit : ℕ) (light : allWeight (clustersOf (stageOf ns ws os k) lo hi host fixed gates) < 2 ^ 48) (short : (r : ℕ) → r < nodeCount ns → getD hi r 0 < 65536)
-      (cut any : List Bool) (anyWeight : List ℕ) (ungatable : List Bool) (near : List ℕ) (points : ℕ)
-      (worked : CountedAll (nodeCount ns) ns ws os lo hi host fixed gates limit cut any anyWeight ungatable near points) where
+      (cut any : List Bool) (anyWeight : List ℕ) (ungatable : List Bool) (near fewest : List ℕ) (points : ℕ)
+      (worked : CountedAll (nodeCount ns) ns ws os lo hi host fixed gates limit cut any anyWeight ungatable near fewest points) where
     abbrev down : Down
     down =
-        downOf cut (worked .fewest) any anyWeight (worked .counted .ungatedOk) (worked .counted .ungatedWeight) (worked .count) (worked .lightest) ungatable (worked .ungated) near
+        downOf cut fewest any anyWeight (worked .counted .ungatedOk) (worked .counted .ungatedWeight) (worked .count) (worked .lightest) ungatable (worked .ungated) near
 
     counted : Counted (clustersOf (stageOf ns ws os k) lo hi host fixed gates) limit down 0
     unfolding workClusters clustersOf stageOf
@@ -133,23 +134,17 @@ module _ (ns ws os : List ℕ) (k : ℕ) (right : NetRight ns ws os) (lo hi host
           record {
             counted = counted;
             chosen = λ r p.
-                chosen-of ws lo hi host cut any anyWeight ungatable near limit (stageOf ns ws os k) fixed gates (worked .fewest) (worked .counted .ungatedOk) (worked .counted .ungatedWeight) (worked .count) (worked .lightest) (worked .ungated) mode high r refl (chose r p);
+                chosen-of ws lo hi host cut any anyWeight ungatable near limit (stageOf ns ws os k) fixed gates fewest (worked .counted .ungatedOk) (worked .counted .ungatedWeight) (worked .count) (worked .lightest) (worked .ungated) mode high r refl (chose r p);
           }
 
       pub planned : Planned (stageOf ns ws os k) limit hi near high points
       unfolding clustersOf stageOf downOf totalFewest rootSum
       planned =
           record {
-            smallest = smallest-list (stageOf ns ws os k) root component limit lo hi host fixed gates cut (worked .fewest) any anyWeight (worked .counted .ungatedOk) (worked .counted .ungatedWeight) (worked .count) (worked .lightest) ungatable (worked .ungated) near mode high is-formed fits run short;
-            listing = listable (stageOf ns ws os k) root component limit lo hi host fixed gates cut (worked .fewest) any anyWeight (worked .counted .ungatedOk) (worked .counted .ungatedWeight) (worked .count) (worked .lightest) ungatable (worked .ungated) near mode high is-formed fits run short;
-            points-is = worked .points-is ∙ sym (count-is-total (stageOf ns ws os k) root component limit lo hi host fixed gates cut (worked .fewest) any anyWeight (worked .counted .ungatedOk) (worked .counted .ungatedWeight) (worked .count) (worked .lightest) ungatable (worked .ungated) near mode high is-formed fits run short);
+            smallest = smallest-list (stageOf ns ws os k) root component limit lo hi host fixed gates cut fewest any anyWeight (worked .counted .ungatedOk) (worked .counted .ungatedWeight) (worked .count) (worked .lightest) ungatable (worked .ungated) near mode high is-formed fits run short;
+            listing = listable (stageOf ns ws os k) root component limit lo hi host fixed gates cut fewest any anyWeight (worked .counted .ungatedOk) (worked .counted .ungatedWeight) (worked .count) (worked .lightest) ungatable (worked .ungated) near mode high is-formed fits run short;
+            points-is = worked .points-is ∙ sym (count-is-total (stageOf ns ws os k) root component limit lo hi host fixed gates cut fewest any anyWeight (worked .counted .ungatedOk) (worked .counted .ungatedWeight) (worked .count) (worked .lightest) ungatable (worked .ungated) near mode high is-formed fits run short);
           }
-
--- an array of false is false everywhere
-pub all-false : (n j : ℕ) → getD (replicate n false) j false ≡ false
-all-false zero j = refl
-all-false (suc n) zero = refl
-all-false (suc n) (suc j) = all-false n j
 
 -- a wire has at most two jumpers
 pub count-few : (n : ℕ) (near : List ℕ) (high : List Bool) → countOf n near high ≤ n * 2

@@ -1,7 +1,6 @@
 // Repair on an accepted net: the passes in order over work arrays, then the list.
 use choice::choose;
 use clusters::scan::scan;
-use counting::count::Count;
 use counting::count::count_pass;
 use listing::write_list;
 use net::Answer;
@@ -10,14 +9,38 @@ use net::fields::node_count;
 use net::layout::ENTRY_BYTES;
 use net::layout::MOST_NODES;
 ghost use mathlib.Core.Path.{_≡_};
-ghost use mathlib.Core.Bool.{false};
-ghost use Prim.Native.Nat.{ℕ, _≤_};
-ghost use lib.ListN.{length, getD};
+ghost use mathlib.Core.Bool.{true, false};
+ghost use Prim.Native.Nat.{_≤_};
+ghost use lib.ListN.{length};
 ghost use Rattle.net.specs.Layout.{mostNodes};
 ghost use Rattle.net.specs.Stage.{stageOf};
 ghost use Rattle.net.specs.Refusal.{none, netRefusal};
 ghost use Rattle.repairs.specs.Promise.{Judged};
-ghost use Rattle.repairs.specs.RepairLaws.{Plans};
+ghost use Rattle.counting.specs.Count.{NoneHopeless};
+ghost use Rattle.repairs.specs.RepairLaws.{Hopeless, Plans};
+
+// The number of points found, or that no set is legal.
+struct Count {
+    hopeless: bool,
+    points: u64,
+}
+
+// A cluster has a gate and more fixed weight than the limit.
+fn is_hopeless(fixed: &[u64], gates: &[u64], n: usize, limit: u64) -> bool
+    requires { ⌜ (n ≤ length (now fixed)) × (n ≤ length (now gates)) ⌝ }
+    ensures { λ b. ⌜ (b ≡ true → Hopeless n (now (fixed .entry)) (now (gates .entry)) limit) × (b ≡ false → NoneHopeless n (now (fixed .entry)) (now (gates .entry)) limit) ⌝ }
+{
+    let mut r: usize = 0;
+    while r < n {
+        if 0 < gates[r] {
+            if limit < fixed[r] {
+                return true;
+            }
+        }
+        r += 1;
+    }
+    false
+}
 
 // The passes in order over lent work arrays: how many points are needed, with hi, near and high for the list of them; or that no set is legal.
 fn run(
@@ -37,15 +60,21 @@ fn run(
     ungatable: &mut [bool],
     near: &mut [u64],
     high: &mut [bool],
+    fewest: &mut [u64],
 ) -> Count
     requires { ⌜ netRefusal (now nodes) (now wires) (now obstacles) ≡ none ⌝ }
-    requires { ⌜ (mostNodes ≤ length (now lo)) × (mostNodes ≤ length (now hi)) × (mostNodes ≤ length (now host)) × (mostNodes ≤ length (now fixed)) × (mostNodes ≤ length (now gates)) × (mostNodes ≤ length (now cut)) × (mostNodes ≤ length (now any)) × (mostNodes ≤ length (now anyweight)) × (mostNodes ≤ length (now ungatable)) × (mostNodes ≤ length (now near)) × (mostNodes ≤ length (now high)) ⌝ }
-    requires { ⌜ ((j : ℕ) → getD (now cut) j false ≡ false) ⌝ }
+    requires { ⌜ (mostNodes ≤ length (now lo)) × (mostNodes ≤ length (now hi)) × (mostNodes ≤ length (now host)) × (mostNodes ≤ length (now fixed)) × (mostNodes ≤ length (now gates)) × (mostNodes ≤ length (now cut)) × (mostNodes ≤ length (now any)) × (mostNodes ≤ length (now anyweight)) × (mostNodes ≤ length (now ungatable)) × (mostNodes ≤ length (now near)) × (mostNodes ≤ length (now high)) × (mostNodes ≤ length (now fewest)) ⌝ }
     ensures { λ x. ⌜ Plans (now (nodes .entry)) (now (wires .entry)) (now (obstacles .entry)) stage limit (now (hi .exit)) (now (near .exit)) (now (high .exit)) (x .hopeless) (x .points) ⌝ }
 {
     let n = node_count(nodes);
     scan(nodes, wires, obstacles, stage, lo, hi, host, fixed, gates);
-    let found = count_pass(
+    if is_hopeless(fixed, gates, n, limit) {
+        return Count {
+            hopeless: true,
+            points: 0,
+        };
+    }
+    let points = count_pass(
         nodes,
         wires,
         obstacles,
@@ -59,12 +88,10 @@ fn run(
         anyweight,
         ungatable,
         near,
+        fewest,
         n,
         limit,
     );
-    if found.hopeless {
-        return found;
-    }
     choose(
         n,
         wires,
@@ -79,7 +106,10 @@ fn run(
         limit,
         high,
     );
-    found
+    Count {
+        hopeless: false,
+        points,
+    }
 }
 
 // The passes with their work arrays.
@@ -105,6 +135,7 @@ fn plan(
     let mut any = [false; MOST_NODES];
     let mut anyweight = [0u64; MOST_NODES];
     let mut ungatable = [false; MOST_NODES];
+    let mut fewest = [0u64; MOST_NODES];
     run(
         nodes,
         wires,
@@ -122,6 +153,7 @@ fn plan(
         &mut ungatable,
         near,
         high,
+        &mut fewest,
     )
 }
 

@@ -1,6 +1,5 @@
--- `repairs::plan` meets its contract: its work arrays are long enough, and no mark is set in them.
+-- `repairs::plan` meets its contract: its work arrays are long enough.
 -- Assumes nothing.
-use Rattle.repairs.specs.RepairLaws.{all-false}
 use borrow.Author.Needs.{needs}
 use Rattle.repairs.proofs.plan.Statement.{statement}
 use Rattle.repairs.proofs.plan.Tie as tie
@@ -29,22 +28,25 @@ slice-aggregate-run-7 c = search needs
 slice-aggregate-run-8 : tie.Need-slice-aggregate-run-8
 slice-aggregate-run-8 c = search needs
 
+slice-aggregate-run-9 : tie.Need-slice-aggregate-run-9
+slice-aggregate-run-9 c = search needs
+
 run-requires : tie.Need-run-requires
 run-requires c κs =
-    let s : tie.Start = c .before .before .before .before .before .before .before .before .before .before .before .before .before .before .before .before .before in
-    (s .pre .0, ((search needs, s .pre .1 .0, search needs, search needs, search needs, search needs, search needs, search needs, search needs, s .pre .1 .1, s .pre .1 .2), λ j. all-false 256 j))
+    let s : tie.Start = c .before .before .before .before .before .before .before .before .before .before .before .before .before .before .before .before .before .before in
+    (s .pre .0, (search needs, s .pre .1 .0, search needs, search needs, search needs, search needs, search needs, search needs, search needs, s .pre .1 .1, s .pre .1 .2, search needs))
 
 same-length : tie.Need-same-length
-same-length c = let d : tie.After-run = c .before .before .before .before .before .before .before .before .before .before .before .before .before .before in d .run .kept .1 .1 .1 .1 .1 .1 .0
+same-length c = let d : tie.After-run = c .before .before .before .before .before .before .before .before .before .before .before .before .before .before .before in d .run .kept .1 .1 .1 .1 .1 .1 .0
 
 same-length-2 : tie.Need-same-length-2
-same-length-2 c = let d : tie.After-run = c .before .before .before .before .before .before .before .before .before .before .before .before .before .before in d .run .kept .1 .1 .1 .1 .1 .1 .1 .1 .1 .1 .1 .1 .1 .1 .0
+same-length-2 c = let d : tie.After-run = c .before .before .before .before .before .before .before .before .before .before .before .before .before .before .before in d .run .kept .1 .1 .1 .1 .1 .1 .1 .1 .1 .1 .1 .1 .1 .1 .0
 
 same-length-3 : tie.Need-same-length-3
-same-length-3 c = let d : tie.After-run = c .before .before .before .before .before .before .before .before .before .before .before .before .before .before in d .run .kept .1 .1 .1 .1 .1 .1 .1 .1 .1 .1 .1 .1 .1 .1 .1 .0
+same-length-3 c = let d : tie.After-run = c .before .before .before .before .before .before .before .before .before .before .before .before .before .before .before in d .run .kept .1 .1 .1 .1 .1 .1 .1 .1 .1 .1 .1 .1 .1 .1 .1 .0
 
 returns : tie.Need-returns
-returns c = let d : tie.After-run = c .before .before .before .before .before .before .before .before .before .before .before .before .before .before in d .run .ensures
+returns c = let d : tie.After-run = c .before .before .before .before .before .before .before .before .before .before .before .before .before .before .before in d .run .ensures
 
 pub plan-spec : {M : Type 1} → statement M
 plan-spec =
@@ -58,6 +60,7 @@ plan-spec =
     slice-aggregate-run-6
     slice-aggregate-run-7
     slice-aggregate-run-8
+    slice-aggregate-run-9
     run-requires
     same-length
     same-length-2

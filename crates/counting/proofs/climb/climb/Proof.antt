@@ -24,21 +24,21 @@ add-ungated c = omega (arith, c .before .before .before .before .before .before 
 
 returns : tie.Need-returns
 returns c =
-    let s = c .before .before .before .before .before .before .before .before in
-    let a = s .args in
-    rw (c .before .before .if1 .taken) (climbs-light (a .nodes .now) (a .wires .now) (a .obstacles .now) (a .i) (a .lo) (a .hi) (a .limit) (a .x .fewest) (a .x .anyweight) (a .x .ungatedweight) _ _ (c .before .before .before .before .stretch-weight .ensures .0) refl (c .if2 .taken))
+    let a = c .before .before .before .before .before .before .before .before .args in
+    let e = c .before .before .before .before .stretch-weight .ensures .0 in
+    climbs-light (a .nodes .now) (a .wires .now) (a .obstacles .now) (a .i) (a .lo) (a .hi) (a .limit) (a .x) _ (c .before .before .if1 .taken) (omega (arith, e, c .if2 .taken)) (rw e)
 
 returns-2 : tie.Need-returns-2
 returns-2 c =
-    let s = c .before .before .before .before .before .before .before .before in
-    let a = s .args in
-    rw (c .before .before .if1 .taken) (climbs-ungated (a .nodes .now) (a .wires .now) (a .obstacles .now) (a .i) (a .lo) (a .hi) (a .limit) (a .x .fewest) (a .x .anyweight) (a .x .ungatedweight) _ _ (c .before .before .before .before .stretch-weight .ensures .0) refl (c .if2 .left))
+    let a = c .before .before .before .before .before .before .before .before .args in
+    let e = c .before .before .before .before .stretch-weight .ensures .0 in
+    climbs-ungated (a .nodes .now) (a .wires .now) (a .obstacles .now) (a .i) (a .lo) (a .hi) (a .limit) (a .x) _ (c .before .before .if1 .taken) (omega (arith, e, c .if2 .left)) (rw e)
 
 returns-3 : tie.Need-returns-3
 returns-3 c =
-    let s = c .before .before .before .before .before .before .before in
-    let a = s .args in
-    rw (c .before .if1 .left) (climbs-within (a .nodes .now) (a .wires .now) (a .obstacles .now) (a .i) (a .lo) (a .hi) (a .limit) (a .x .fewest) (a .x .anyweight) (a .x .ungatedweight) _ _ (c .before .before .before .stretch-weight .ensures .0) (c .if3 .taken))
+    let a = c .before .before .before .before .before .before .before .args in
+    let e = c .before .before .before .stretch-weight .ensures .0 in
+    climbs-within (a .nodes .now) (a .wires .now) (a .obstacles .now) (a .i) (a .lo) (a .hi) (a .limit) (a .x) _ (c .before .if1 .left) (omega (arith, e, c .if3 .taken)) (rw e)
 
 last-within-requires : tie.Need-last-within-requires
 last-within-requires c κs = (c .before .before .before .before .before .before .before .pre .0, (c .before .before .before .before .before .before .before .pre .1 .within (c .before .if1 .left), omega (arith, c .before .before .before .stretch-weight .ensures .0)))
@@ -57,9 +57,9 @@ add-t16 c = omega (arith, c .before .before .before .before .before .before .bef
 
 returns-4 : tie.Need-returns-4
 returns-4 c =
-    let s = c .before .before .before .before .before .before .before .before .before .before in
-    let a = s .args in
-    rw (c .before .before .before .before .if1 .left) (climbs-jumper (a .nodes .now) (a .wires .now) (a .obstacles .now) (a .i) (a .lo) (a .hi) (a .limit) (a .x .fewest) (a .x .anyweight) (a .x .ungatedweight) _ _ _ (c .before .before .before .before .before .before .stretch-weight .ensures .0) (c .before .before .before .if3 .left) (c .before .before .last-within .ensures) (c .before .stretch-weight2 .ensures .0))
+    let a = c .before .before .before .before .before .before .before .before .before .before .args in
+    let e = c .before .before .before .before .before .before .stretch-weight .ensures .0 in
+    climbs-jumper (a .nodes .now) (a .wires .now) (a .obstacles .now) (a .i) (a .lo) (a .hi) (a .limit) (a .x) _ _ (c .before .before .before .before .if1 .left) (omega (arith, e, c .before .before .before .if3 .left)) (c .before .before .last-within .ensures) (rw (c .before .stretch-weight2 .ensures .0))
 
 pub climb-spec : {M : Type 1} → statement M
 climb-spec =

@@ -1,133 +1,86 @@
--- `counting::close::close` meets its contract: each ending is one of `Closed`, or a gate with more fixed weight than the limit.
+-- `counting::close::close` meets its contract: the ungated option alone where the fixed weight passes the limit, else the two compared.
 -- Assumes nothing.
 use mathlib.Core.Path.{refl}
-use mathlib.Core.Logic.{inl, inr}
-use mathlib.Core.Bool.{false≢true, true≢false}
+use mathlib.Core.Logic.{inl}
 use native.Mathlib.Omega.{arith}
 use Rattle.counting.specs.CloseSums.{flagged-few}
-use Rattle.counting.specs.CloseEndings.{ends-any, ends-both, ends-ungated}
+use Rattle.counting.specs.CloseEndings.{no-gate, ends-ungated, ends-compared}
 use Rattle.counting.proofs.close.close.Statement.{statement}
 use Rattle.counting.proofs.close.close.Tie as tie
 
+abbrev start : tie.After-sum-branches → tie.Start
+start c = c .before .before .before .before .before .before .before .before
+
 sum-branches-requires : tie.Need-sum-branches-requires
 sum-branches-requires c κs =
-    let p = c .before .before .before .before .before .before .before .pre in (
-      (p .0 .los, p .0 .hosts, p .0 .counts, p .0 .lights, p .0 .flags, p .0 .weights),
-      ((omega (arith, p .1 .0 .counts), omega (arith, p .1 .0 .weights), omega (arith, p .1 .0 .ungated-weights)), p .1 .1 .1),
-    )
+    let p = c .before .before .before .before .before .before .before .pre in
+    let room = p .1 .1 .0 in
+    (p .0 .0, (p .1 .0, ((omega (arith, room .counts), omega (arith, room .weights), omega (arith, room .ungated-weights)), p .1 .1 .1 .1 .0)))
+
+add-t16 : tie.Need-add-t16
+add-t16 c = omega (arith, start (c .before) .pre .1 .1 .0 .ungated-weights, c .before .sum-branches .ensures .2)
+
+only-ungated-requires : tie.Need-only-ungated-requires
+only-ungated-requires c κs =
+    let t : tie.After-sum-branches = c .before .before in
+    let room = start t .pre .1 .1 .0 in
+    let all = t .sum-branches .ensures in
+    omega (arith, room .counts, room .few, all .0, all .4)
 
 returns : tie.Need-returns
-returns c = record { long = refl; others = λ j h. refl; closed = λ e. absurd (true≢false e); gated = λ e. c .if2 .taken; heavy = λ e. c .before .if1 .taken }
-
-add-weight : tie.Need-add-weight
-add-weight c = let p = c .before .before .before .before .before .before .before .before .before .before .before .pre in omega (arith, p .1 .0 .ungated-weights, c .before .before .before .sum-branches .ensures .2)
-
-add-t20 : tie.Need-add-t20
-add-t20 c =
-    let p = c .before .before .before .before .before .before .before .before .before .before .before .before .pre in
-    let all = c .before .before .before .before .sum-branches .ensures in
-    omega (arith, p .1 .0 .counts, p .1 .0 .few, all .0, all .4)
-
-returns-2 : tie.Need-returns-2
-returns-2 c =
-    let s = c .before .before .before .before .before .before .before .before .before .before .before .before in
-    let all = c .before .before .before .before .sum-branches .ensures in
+returns c =
+    let t : tie.After-sum-branches = c .before .before .before in
+    let s = start t in
+    let a = s .args in
+    let all = t .sum-branches .ensures in
     record {
       long = refl;
       others = λ j h. refl;
-      closed = λ e. ends-ungated (s .args .n) (s .args .lo .now) (s .args .host .now) (s .args .count .now) (s .args .lightest .now) (s .args .ungatable .now) (s .args .ungated .now) (s .args .cut .now) (s .args .cut .now) (s .args .r) (s .args .fixed) (s .args .gates) (s .args .limit) (omega arith) (inl (c .before .before .before .if1 .taken)) _ _ (all .0) (all .3) _ (omega (arith, all .2));
-      gated = λ e. absurd (false≢true e);
-      heavy = λ e. absurd (false≢true e);
+      closed =
+          ends-ungated (a .n) (a .lo .now) (a .host .now) (a .count .now) (a .lightest .now) (a .has-ungated .now) (a .ungated .now) (a .cut-any .now) (a .cut-any .now) (a .k) (a .limit)
+          _ _ _ (all .0) (all .3) (omega (arith, all .2)) (no-gate _ _ _ (s .pre .1 .1 .1 .1 .1) (c .before .if1 .taken)) (inl (c .before .if1 .taken)) _ (c .only-ungated .ensures);
     }
 
 cut-heaviest-requires : tie.Need-cut-heaviest-requires
 cut-heaviest-requires c κs =
-    let p = c .before .before .before .before .before .before .before .before .before .before .pre in
-    ((p .0 .los, p .0 .hosts, p .0 .lights, p .0 .cuts), ((omega arith, omega (arith, p .1 .0 .weights), c .before .before .sum-branches .ensures .1), p .1 .1))
+    let t : tie.After-sum-branches = c .before .before .before in
+    let p = start t .pre in
+    (p .0 .0, ((p .1 .0 .lights, p .0 .1), ((omega (arith, c .before .if1 .left), omega (arith, p .1 .1 .0 .weights), t .sum-branches .ensures .1), (p .1 .1 .1 .0, p .1 .1 .1 .1 .0))))
 
-add-fewest : tie.Need-add-fewest
-add-fewest c =
-    let s = c .before .before .before .before .before .before .before .before .before .before .before .before .before .before .before in
-    let some = c .before .before .before .before .cut-heaviest in
-    omega (
-      arith,
-      s .pre .1 .0 .counts,
-      s .pre .1 .0 .few,
-      c .before .before .before .before .before .before .before .sum-branches .ensures .0,
-      some .ensures .0 .cuts-is,
-      flagged-few (s .args .n) (s .args .lo .now) (s .args .host .now) (s .args .r) (some .last .1 .1 .1 .0),
+compare-requires : tie.Need-compare-requires
+compare-requires c κs =
+    let u : tie.After-cut-heaviest = c .before .before in
+    let t : tie.After-sum-branches = u .before .before .before .before in
+    let s = start t in
+    let room = s .pre .1 .1 .0 in
+    let all = t .sum-branches .ensures in (
+      omega (
+        arith,
+        room .counts,
+        room .few,
+        all .0,
+        u .cut-heaviest .ensures .0 .cuts-is,
+        flagged-few (s .args .n) (s .args .lo .now) (s .args .host .now) (s .args .k .lowest) (u .cut-heaviest .last .1 .1 .1 .0),
+      ),
+      omega (arith, room .counts, room .few, all .0, all .4),
     )
 
 same-length : tie.Need-same-length
-same-length c = c .before .before .before .before .before .cut-heaviest .ensures .0 .long
+same-length c = c .before .before .before .cut-heaviest .ensures .0 .long
 
-returns-3 : tie.Need-returns-3
-returns-3 c =
-    let s = c .before .before .before .before .before .before .before .before .before .before .before .before .before .before .before .before in
-    let some = c .before .before .before .before .before .cut-heaviest in
+returns-2 : tie.Need-returns-2
+returns-2 c =
+    let u : tie.After-cut-heaviest = c .before .before .before in
+    let t : tie.After-sum-branches = u .before .before .before .before in
+    let a = start t .args in
+    let all = t .sum-branches .ensures in
+    let cutting = u .cut-heaviest .ensures in
     record {
-      long = some .ensures .0 .long;
-      others = some .ensures .0 .others;
-      closed = λ e. ends-any (s .args .n) (s .args .lo .now) (s .args .host .now) (s .args .count .now) (s .args .lightest .now) (s .args .ungatable .now) (s .args .ungated .now) (s .args .cut .now) (some .last .1 .1 .1 .0) (s .args .r) (s .args .fixed) (s .args .gates) (s .args .limit) (some .ensures .0) (some .ensures .1) (inl (c .if3 .taken)) _ _ (c .before .before .before .before .before .before .before .before .sum-branches .ensures .0);
-      gated = λ e. absurd (false≢true e);
-      heavy = λ e. absurd (false≢true e);
-    }
-
-same-length-2 : tie.Need-same-length-2
-same-length-2 c = c .before .before .before .before .before .before .before .before .cut-heaviest .ensures .0 .long
-
-returns-4 : tie.Need-returns-4
-returns-4 c =
-    let s = c .before .before .before .before .before .before .before .before .before .before .before .before .before .before .before .before .before .before .before in
-    let some = c .before .before .before .before .before .before .before .before .cut-heaviest in
-    let all = c .before .before .before .before .before .before .before .before .before .before .before .sum-branches .ensures in
-    record {
-      long = some .ensures .0 .long;
-      others = some .ensures .0 .others;
-      closed = λ e. ends-any (s .args .n) (s .args .lo .now) (s .args .host .now) (s .args .count .now) (s .args .lightest .now) (s .args .ungatable .now) (s .args .ungated .now) (s .args .cut .now) (some .last .1 .1 .1 .0) (s .args .r) (s .args .fixed) (s .args .gates) (s .args .limit) (some .ensures .0) (some .ensures .1) (inr (omega (arith, all .3))) _ _ (all .0);
-      gated = λ e. absurd (false≢true e);
-      heavy = λ e. absurd (false≢true e);
-    }
-
-add-weight-2 : tie.Need-add-weight-2
-add-weight-2 c = let p = c .before .before .before .before .before .before .before .before .before .before .before .before .before .before .before .before .before .before .before .before .pre in omega (arith, p .1 .0 .ungated-weights, c .before .before .before .before .before .before .before .before .before .before .before .before .sum-branches .ensures .2)
-
-add-t23 : tie.Need-add-t23
-add-t23 c =
-    let p = c .before .before .before .before .before .before .before .before .before .before .before .before .before .before .before .before .before .before .before .before .before .before .before .before .pre in
-    let all = c .before .before .before .before .before .before .before .before .before .before .before .before .before .before .before .before .sum-branches .ensures in
-    omega (arith, p .1 .0 .counts, p .1 .0 .few, all .0, all .4)
-
-same-length-3 : tie.Need-same-length-3
-same-length-3 c = c .before .before .before .before .before .before .before .before .before .before .before .before .before .cut-heaviest .ensures .0 .long
-
-returns-5 : tie.Need-returns-5
-returns-5 c =
-    let s = c .before .before .before .before .before .before .before .before .before .before .before .before .before .before .before .before .before .before .before .before .before .before .before .before in
-    let some = c .before .before .before .before .before .before .before .before .before .before .before .before .before .cut-heaviest in
-    let all = c .before .before .before .before .before .before .before .before .before .before .before .before .before .before .before .before .sum-branches .ensures in
-    record {
-      long = some .ensures .0 .long;
-      others = some .ensures .0 .others;
-      closed = λ e. ends-ungated (s .args .n) (s .args .lo .now) (s .args .host .now) (s .args .count .now) (s .args .lightest .now) (s .args .ungatable .now) (s .args .ungated .now) (s .args .cut .now) (some .last .1 .1 .1 .0) (s .args .r) (s .args .fixed) (s .args .gates) (s .args .limit) (omega (arith, c .before .before .before .before .before .before .before .before .if3 .left)) (inr (_, _, some .ensures .0, some .ensures .1, omega (arith, all .3))) _ _ (all .0) (all .3) _ (omega (arith, all .2));
-      gated = λ e. absurd (false≢true e);
-      heavy = λ e. absurd (false≢true e);
-    }
-
-same-length-4 : tie.Need-same-length-4
-same-length-4 c = c .before .before .before .before .before .before .before .before .before .before .before .before .cut-heaviest .ensures .0 .long
-
-returns-6 : tie.Need-returns-6
-returns-6 c =
-    let s = c .before .before .before .before .before .before .before .before .before .before .before .before .before .before .before .before .before .before .before .before .before .before .before in
-    let some = c .before .before .before .before .before .before .before .before .before .before .before .before .cut-heaviest in
-    let all = c .before .before .before .before .before .before .before .before .before .before .before .before .before .before .before .sum-branches .ensures in
-    record {
-      long = some .ensures .0 .long;
-      others = some .ensures .0 .others;
-      closed = λ e. ends-both (s .args .n) (s .args .lo .now) (s .args .host .now) (s .args .count .now) (s .args .lightest .now) (s .args .ungatable .now) (s .args .ungated .now) (s .args .cut .now) (some .last .1 .1 .1 .0) (s .args .r) (s .args .fixed) (s .args .gates) (s .args .limit) (some .ensures .0) (some .ensures .1) (omega arith) (omega (arith, all .3)) _ (all .0) _ (omega (arith, all .2));
-      gated = λ e. absurd (false≢true e);
-      heavy = λ e. absurd (false≢true e);
+      long = cutting .0 .long;
+      others = cutting .0 .others;
+      closed =
+          ends-compared (a .n) (a .lo .now) (a .host .now) (a .count .now) (a .lightest .now) (a .has-ungated .now) (a .ungated .now) (a .cut-any .now) (u .cut-heaviest .last .1 .1 .1 .0) (a .k) (a .limit)
+          _ _ _ (all .0) (all .3) (omega (arith, all .2)) _ (cutting .0) (cutting .1) (c .compare .ensures);
     }
 
 pub close-spec : {M : Type 1} → statement M
@@ -135,19 +88,10 @@ close-spec =
     tie.close
     (tie.spec
     sum-branches-requires
+    add-t16
+    only-ungated-requires
     returns
-    add-weight
-    add-t20
-    returns-2
     cut-heaviest-requires
-    add-fewest
+    compare-requires
     same-length
-    returns-3
-    same-length-2
-    returns-4
-    add-weight-2
-    add-t23
-    same-length-3
-    returns-5
-    same-length-4
-    returns-6)
+    returns-2)

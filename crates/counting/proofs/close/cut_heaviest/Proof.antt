@@ -8,10 +8,10 @@ use Rattle.counting.proofs.close.cut_heaviest.Statement.{statement}
 use Rattle.counting.proofs.close.cut_heaviest.Tie as tie
 
 abbrev Inv-loop : tie.InvT-loop
-Inv-loop lo host lightest cut₀ r n fixed branches limit left₀ cuts₀ cut left cuts = Cutting n lo host lightest cut₀ cut r fixed limit cuts left × (cuts + left ≤ fixed + branchSum n lo host r lightest)
+Inv-loop lo host lightest cutAny₀ r n fixed branches limit left₀ cuts₀ cutAny left cuts = Cutting n lo host lightest cutAny₀ cutAny r fixed limit cuts left × (cuts + left ≤ fixed + branchSum n lo host r lightest)
 
 abbrev μ-loop : tie.MeasureT-loop
-μ-loop lo host lightest cut₀ r n fixed branches limit left₀ cuts₀ cut left cuts = left
+μ-loop lo host lightest cutAny₀ r n fixed branches limit left₀ cuts₀ cutAny left cuts = left
 
 add-left : tie.Need-add-left Inv-loop μ-loop
 add-left c = omega arith
@@ -19,13 +19,13 @@ add-left c = omega arith
 loop-holds : tie.Need-loop-holds Inv-loop μ-loop
 loop-holds c =
     let s = c .before .before .before .before in
-    (cutting-start _ _ _ _ _ _ _ _ _ (s .pre .1 .1 .0) (omega arith), omega arith)
+    (cutting-start _ _ _ _ _ _ _ _ _ (s .pre .1 .1 .1 .0) (omega arith), omega arith)
 
 heaviest-requires : tie.Need-heaviest-requires Inv-loop μ-loop
-heaviest-requires c κs = (omega arith, c .before .before .before .before .before .before .before .pre .1 .1 .1)
+heaviest-requires c κs = let p = c .before .before .before .before .before .before .before .pre in (p .0, ((p .1 .0 .0, omega (arith, p .1 .0 .1, c .before .before .loop .inv .0 .long)), p .1 .1 .1 .1))
 
-slice-write-cut : tie.Need-slice-write-cut Inv-loop μ-loop
-slice-write-cut c =
+slice-write-cut-any : tie.Need-slice-write-cut-any Inv-loop μ-loop
+slice-write-cut-any c =
     let m = cutting-more _ _ _ _ _ (c .before .before .before .loop .inv .0) (c .heaviest .ensures) (omega arith) (c .before .before .loop-test .taken) in
     omega (arith, m .1 .inside, c .before .before .before .loop .inv .0 .long)
 
@@ -76,7 +76,7 @@ cut-heaviest-spec =
     add-left
     loop-holds
     heaviest-requires
-    slice-write-cut
+    slice-write-cut-any
     mul-left
     shared-slice-read-left
     sub-left

@@ -10,16 +10,16 @@ use Rattle.counting.proofs.close.heaviest.Statement.{statement}
 use Rattle.counting.proofs.close.heaviest.Tie as tie
 
 abbrev Inv-loop : tie.InvT-loop
-Inv-loop lo host lightest cut r n at₀ weight₀ j₀ at weight j = (j ≤ n) × Heaviest j lo host lightest cut r at weight
+Inv-loop lo host lightest cutAny r n at₀ weight₀ j₀ at weight j = (j ≤ n) × Heaviest j lo host lightest cutAny r at weight
 
 abbrev μ-loop : tie.MeasureT-loop
-μ-loop lo host lightest cut r n at₀ weight₀ j₀ at weight j = n - j
+μ-loop lo host lightest cutAny r n at₀ weight₀ j₀ at weight j = n - j
 
 add-j : tie.Need-add-j Inv-loop μ-loop
 add-j c = omega arith
 
 loop-holds : tie.Need-loop-holds Inv-loop μ-loop
-loop-holds c = (omega arith, heaviest-none _ _ _ _ _ _ (c .before .before .before .before .pre .1 .1))
+loop-holds c = (omega arith, heaviest-none _ _ _ _ _ _ (c .before .before .before .before .pre .1 .1 .1))
 
 heavier-requires : tie.Need-heavier-requires Inv-loop μ-loop
 heavier-requires c κs = omega arith

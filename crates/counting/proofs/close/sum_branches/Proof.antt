@@ -10,12 +10,12 @@ use Rattle.counting.proofs.close.sum_branches.Statement.{statement}
 use Rattle.counting.proofs.close.sum_branches.Tie as tie
 
 abbrev Inv-loop : tie.InvT-loop
-Inv-loop lo host count lightest ungatable ungated r n below₀ light₀ free₀ gated₀ j₀ below light free gated j =
+Inv-loop lo host count lightest hasUngated ungated r n below₀ light₀ free₀ gated₀ j₀ below light free gated j =
     (j ≤ n) × (gated ≤ j) × (below ≡ branchSum j lo host r count) × (light ≡ branchSum j lo host r lightest)
-    × (free ≡ flaggedSum j lo host r ungatable ungated) × (gated ≡ clearCount j lo host r ungatable)
+    × (free ≡ flaggedSum j lo host r hasUngated ungated) × (gated ≡ clearCount j lo host r hasUngated)
 
 abbrev μ-loop : tie.MeasureT-loop
-μ-loop lo host count lightest ungatable ungated r n below₀ light₀ free₀ gated₀ j₀ below light free gated j = n - j
+μ-loop lo host count lightest hasUngated ungated r n below₀ light₀ free₀ gated₀ j₀ below light free gated j = n - j
 
 add-j : tie.Need-add-j Inv-loop μ-loop
 add-j c = omega arith
@@ -23,8 +23,8 @@ add-j c = omega arith
 loop-holds : tie.Need-loop-holds Inv-loop μ-loop
 loop-holds c =
     let s = c .before .before .before .before .before .before in
-    let above = s .pre .1 .1 .1 in
-    let z = option-none (s .args .lo .now) (s .args .host .now) (s .args .ungated .now) (s .args .ungatable .now) (s .args .r) above in (
+    let above = s .pre .1 .1 .1 .1 in
+    let z = option-none (s .args .lo .now) (s .args .host .now) (s .args .ungated .now) (s .args .has-ungated .now) (s .args .r) above in (
       omega arith,
       omega arith,
       sym (branch-none (s .args .lo .now) (s .args .host .now) (s .args .count .now) (s .args .r) above),
@@ -76,7 +76,7 @@ add-free c =
     let s = c .before .before .before .before .before .before .before .before .before .before .before .before .before .before .before in
     let l = c .before .before .before .before .before .before .before .before .loop in
     let h = sym (c .before .before .before .before .before .before .hangs .ensures) ∙ c .before .before .before .before .before .if1 .taken in
-    omega (arith, option-room (s .args .lo .now) (s .args .host .now) (s .args .ungated .now) (s .args .ungatable .now) (s .args .r) (l .j) (s .args .n) (omega arith) h (c .before .if2 .taken))
+    omega (arith, option-room (s .args .lo .now) (s .args .host .now) (s .args .ungated .now) (s .args .has-ungated .now) (s .args .r) (l .j) (s .args .n) (omega arith) h (c .before .if2 .taken))
 
 add-gated : tie.Need-add-gated Inv-loop μ-loop
 add-gated c = omega arith
@@ -96,7 +96,7 @@ loop-again c =
     let h = sym (c .before .hangs .ensures) ∙ w .0 .taken in
     let a = branch-yes (s .args .lo .now) (s .args .host .now) (s .args .count .now) (s .args .r) (l .j) h in
     let b = branch-yes (s .args .lo .now) (s .args .host .now) (s .args .lightest .now) (s .args .r) (l .j) h in
-    let z = option-flagged (s .args .lo .now) (s .args .host .now) (s .args .ungated .now) (s .args .ungatable .now) (s .args .r) (l .j) h (w .4 .taken) in
+    let z = option-flagged (s .args .lo .now) (s .args .host .now) (s .args .ungated .now) (s .args .has-ungated .now) (s .args .r) (l .j) h (w .4 .taken) in
     (omega arith, omega (arith, w .9), omega (arith, w .6), omega (arith, w .7), omega (arith, w .8, z .1), omega (arith, w .9, z .0)))
     (λ v.
     ⊎-elim
@@ -104,13 +104,13 @@ loop-again c =
     let h = sym (c .before .hangs .ensures) ∙ w .0 .taken in
     let a = branch-yes (s .args .lo .now) (s .args .host .now) (s .args .count .now) (s .args .r) (l .j) h in
     let b = branch-yes (s .args .lo .now) (s .args .host .now) (s .args .lightest .now) (s .args .r) (l .j) h in
-    let z = option-clear (s .args .lo .now) (s .args .host .now) (s .args .ungated .now) (s .args .ungatable .now) (s .args .r) (l .j) h (w .4 .left) in
+    let z = option-clear (s .args .lo .now) (s .args .host .now) (s .args .ungated .now) (s .args .has-ungated .now) (s .args .r) (l .j) h (w .4 .left) in
     (omega arith, omega (arith, w .8), omega (arith, w .5), omega (arith, w .6), omega (arith, w .7, z .1), omega (arith, w .8, z .0)))
     (λ w.
     let h = sym (c .before .hangs .ensures) ∙ w .0 .left in
     let a = branch-no (s .args .lo .now) (s .args .host .now) (s .args .count .now) (s .args .r) (l .j) h in
     let b = branch-no (s .args .lo .now) (s .args .host .now) (s .args .lightest .now) (s .args .r) (l .j) h in
-    let z = option-no (s .args .lo .now) (s .args .host .now) (s .args .ungated .now) (s .args .ungatable .now) (s .args .r) (l .j) h in
+    let z = option-no (s .args .lo .now) (s .args .host .now) (s .args .ungated .now) (s .args .has-ungated .now) (s .args .r) (l .j) h in
     (omega arith, omega (arith, w .4), omega (arith, w .1), omega (arith, w .2), omega (arith, w .3, z .1), omega (arith, w .4, z .0)))
     v)
     (c .if1 .came)

@@ -2,39 +2,39 @@
 -- Assumes nothing.
 use Prim.Native.Nat.{_≤_, _<_, _-_, _+_}
 use mathlib.Core.Path.{_≡_, refl, _∙_}
-use mathlib.Core.Bool.{false≢true, true≢false}
 use native.Mathlib.Omega.{arith}
-use lib.ListN.{getD}
+use lib.ListN.{getD, length-set}
+use Rattle.counting.specs.Lengths.{Lengths, BranchArrays}
 use Rattle.counting.specs.Close.{Room}
 use Rattle.counting.specs.Count.{workClusters, Unmarked, CountedFrom, Kept}
 use Rattle.counting.specs.CountStep.{closable}
-use Rattle.counting.specs.CountArrays.{counted-none, room-of, unmarked-branches, unmarked-less, hung-above, branch-of, counted-turn}
-use Rattle.counting.specs.CountStored.{roots-few}
+use Rattle.counting.specs.CountArrays.{clusterAt, counted-none, room-of, unmarked-branches, unmarked-less, hung-above, branch-of, counted-turn}
 use Rattle.counting.proofs.count.count_clusters.Statement.{statement}
 use Rattle.counting.proofs.count.count_clusters.Tie as tie
 
 abbrev Inv-loop : tie.InvT-loop
-Inv-loop nodes wires obstacles lo hi host fixed gates cut₀ fewest₀ any₀ anyweight₀ count₀ lightest₀ ungatable₀ ungated₀ near₀ n limit r₀ cut fewest any anyweight count lightest ungatable ungated near r =
+Inv-loop nodes wires obstacles lo hi host fixed gates cut-any₀ any-ok₀ any-weight₀ has-ungated₀ near₀ fewest₀ count₀ lightest₀ ungated₀ n limit r₀ cut-any any-ok any-weight has-ungated near fewest count lightest ungated r =
     (r ≤ n)
-    × CountedFrom (workClusters n nodes wires obstacles lo hi host fixed gates) limit cut fewest any anyweight count lightest ungatable ungated near r
-    × Unmarked n lo host cut r
-    × Kept cut₀ fewest₀ any₀ anyweight₀ count₀ lightest₀ ungatable₀ ungated₀ near₀ cut fewest any anyweight count lightest ungatable ungated near
+    × CountedFrom (workClusters n nodes wires obstacles lo hi host fixed gates) limit cut-any fewest any-ok any-weight count lightest has-ungated ungated near r
+    × Unmarked n lo host cut-any r
+    × Kept cut-any₀ any-ok₀ any-weight₀ has-ungated₀ near₀ fewest₀ count₀ lightest₀ ungated₀ cut-any any-ok any-weight has-ungated near fewest count lightest ungated
 
 abbrev μ-loop : tie.MeasureT-loop
-μ-loop nodes wires obstacles lo hi host fixed gates cut₀ fewest₀ any₀ anyweight₀ count₀ lightest₀ ungatable₀ ungated₀ near₀ n limit r₀ cut fewest any anyweight count lightest ungatable ungated near r = r
+μ-loop nodes wires obstacles lo hi host fixed gates cut-any₀ any-ok₀ any-weight₀ has-ungated₀ near₀ fewest₀ count₀ lightest₀ ungated₀ n limit r₀ cut-any any-ok any-weight has-ungated near fewest count lightest ungated r =
+    r
 
 -- ---- the places of a turn
 abbrev start : tie.At-loop Inv-loop μ-loop → tie.Start Inv-loop μ-loop
 start c = c .before .before .before .before .before .before .before .before .before .before .before .before .before .before .before .before .before .before
 
-abbrev entered : tie.After-close-at Inv-loop μ-loop → tie.In-loop Inv-loop μ-loop
-entered c = c .before .before .before .before .before .before .before .before .before
+abbrev entered : tie.After-close Inv-loop μ-loop → tie.In-loop Inv-loop μ-loop
+entered c = c .before .before .before .before .before .before .before .before
 
-abbrev closed : tie.Else1 Inv-loop μ-loop → tie.After-close-at Inv-loop μ-loop
-closed c = c .before .before .before .before .before .before .before .before .before
+abbrev closed : tie.After-slice-known10 Inv-loop μ-loop → tie.After-close Inv-loop μ-loop
+closed c = c .before .before
 
-abbrev climbed : tie.After-climb-at Inv-loop μ-loop → tie.Else1 Inv-loop μ-loop
-climbed c = c .before .before .before .before .before .before
+abbrev stored : tie.After-climb-at Inv-loop μ-loop → tie.After-slice-known10 Inv-loop μ-loop
+stored c = c .before .before .before
 
 -- ---- what holds where a turn begins
 inside : (c : tie.In-loop Inv-loop μ-loop) → c .before .loop .r - 1 < start (c .before) .args .n
@@ -43,14 +43,44 @@ inside c = omega (arith, c .before .loop .inv .0, c .loop-test .taken)
 one-less : (c : tie.In-loop Inv-loop μ-loop) → c .before .loop .r - 1 + 1 ≡ c .before .loop .r
 one-less c = omega (arith, c .loop-test .taken)
 
+lengths : (c : tie.At-loop Inv-loop μ-loop) →
+    Lengths (start c .args .n) (start c .args .lo .now) (start c .args .hi .now) (start c .args .host .now) (start c .args .fixed .now) (start c .args .gates .now)
+    (c .loop .cut-any) (c .loop .any-ok) (c .loop .any-weight) (c .loop .has-ungated) (c .loop .near) (c .loop .fewest)
+lengths c =
+    let p = start c .pre .1 .0 in
+    let k = c .loop .inv .3 in
+    record {
+      hanging = p .hanging;
+      his = p .his;
+      fixeds = p .fixeds;
+      gate-counts = p .gate-counts;
+      cuts = omega (arith, p .cuts, k .cuts);
+      anys = omega (arith, p .anys, k .anys);
+      any-weights = omega (arith, p .any-weights, k .any-weights);
+      flags = omega (arith, p .flags, k .flags);
+      nears = omega (arith, p .nears, k .nears);
+      fewests = omega (arith, p .fewests, k .fewests);
+    }
+
+branches : (c : tie.At-loop Inv-loop μ-loop) → BranchArrays (start c .args .n) (c .loop .count) (c .loop .lightest) (c .loop .has-ungated) (c .loop .ungated)
+branches c =
+    let p = start c .pre .1 .1 .0 in
+    let k = c .loop .inv .3 in
+    record {
+      counts = omega (arith, p .counts, k .counts);
+      lights = omega (arith, p .lights, k .lights);
+      flags = omega (arith, p .flags, k .flags);
+      weights = omega (arith, p .weights, k .ungateds);
+    }
+
 room : (c : tie.In-loop Inv-loop μ-loop) →
-    Room (start (c .before) .args .n) (start (c .before) .args .lo .now) (start (c .before) .args .host .now) (c .before .loop .count) (c .before .loop .lightest) (c .before .loop .ungatable) (c .before .loop .ungated)
-    (c .before .loop .r - 1) (getD (start (c .before) .args .fixed .now) (c .before .loop .r - 1) 0)
+    Room (start (c .before) .args .n) (start (c .before) .args .lo .now) (start (c .before) .args .host .now) (c .before .loop .count) (c .before .loop .lightest) (c .before .loop .has-ungated) (c .before .loop .ungated)
+    (clusterAt (start (c .before) .args .fixed .now) (start (c .before) .args .gates .now) (c .before .loop .r - 1))
 room c =
     let s = start (c .before) in
     let a = s .args in
     let l = c .before .loop in
-    room-of (a .n) (a .nodes .now) (a .wires .now) (a .obstacles .now) (a .lo .now) (a .hi .now) (a .host .now) (a .fixed .now) (a .gates .now) (s .pre .0) (a .limit) (l .cut) (l .fewest) (l .any) (l .anyweight) (l .count) (l .lightest) (l .ungatable) (l .ungated) (l .near) (l .r - 1) (inside c) (rw (one-less c) (l .inv .1))
+    room-of (a .n) (a .nodes .now) (a .wires .now) (a .obstacles .now) (a .lo .now) (a .hi .now) (a .host .now) (a .fixed .now) (a .gates .now) (s .pre .0) (a .limit) (l .cut-any) (l .fewest) (l .any-ok) (l .any-weight) (l .count) (l .lightest) (l .has-ungated) (l .ungated) (l .near) (l .r - 1) (inside c) (rw (one-less c) (l .inv .1))
 
 loop-holds : tie.Need-loop-holds Inv-loop μ-loop
 loop-holds c =
@@ -58,181 +88,182 @@ loop-holds c =
     let a = s .args in (
       omega arith,
       counted-none (a .n) (a .nodes .now) (a .wires .now) (a .obstacles .now) (a .lo .now) (a .hi .now) (a .host .now) (a .fixed .now) (a .gates .now) (s .pre .0) (a .limit) _ _ _ _ _ _ _ _ _,
-      (λ j p k h. s .pre .1 .1 j p),
-      record { cuts = refl; fewests = refl; anys = refl; any-weights = refl; counts = refl; lights = refl; flags = refl; ungateds = refl; nears = refl },
+      (λ j p k h. s .pre .1 .1 .1 .1 j p),
+      record { cuts = refl; anys = refl; any-weights = refl; flags = refl; nears = refl; fewests = refl; counts = refl; lights = refl; ungateds = refl },
     )
 
 sub-r : tie.Need-sub-r Inv-loop μ-loop
 sub-r c = omega arith
 
-close-at-requires : tie.Need-close-at-requires Inv-loop μ-loop
-close-at-requires c κs =
-    let t : tie.In-loop Inv-loop μ-loop = c .before .before .before .before .before .before .before .before in
+mul-climb-at : tie.Need-mul-climb-at Inv-loop μ-loop
+mul-climb-at c = omega (arith, inside c, lengths (c .before) .fixeds, start (c .before) .pre .0 .few)
+
+shared-slice-read-climb-at : tie.Need-shared-slice-read-climb-at Inv-loop μ-loop
+shared-slice-read-climb-at c = omega (arith, inside (c .before), lengths (c .before .before) .fixeds)
+
+mul-climb-at-2 : tie.Need-mul-climb-at-2 Inv-loop μ-loop
+mul-climb-at-2 c = omega (arith, inside (c .before), lengths (c .before .before) .gate-counts, start (c .before .before) .pre .0 .few)
+
+shared-slice-read-climb-at-2 : tie.Need-shared-slice-read-climb-at-2 Inv-loop μ-loop
+shared-slice-read-climb-at-2 c = omega (arith, inside (c .before .before), lengths (c .before .before .before) .gate-counts)
+
+close-requires : tie.Need-close-requires Inv-loop μ-loop
+close-requires c κs =
+    let t : tie.In-loop Inv-loop μ-loop = c .before .before .before .before .before .before .before in
     let s = start (t .before) in
     let a = s .args in
     let l = t .before .loop in
     let i = l .inv in
     let ready = s .pre .0 in
-    let reach = s .pre .1 .0 in (
-      record {
-        los = ready .los;
-        hosts = ready .hosts;
-        counts = omega (arith, reach .counts, i .3 .counts);
-        lights = omega (arith, reach .lights, i .3 .lights);
-        flags = omega (arith, reach .flags, i .3 .flags);
-        weights = omega (arith, reach .ungateds, i .3 .ungateds);
-        cuts = omega (arith, reach .cuts, i .3 .cuts);
-      },
+    let long = lengths (t .before) in (
+      (long .hanging, long .cuts),
       (
-        (inside t, ready .fixeds, ready .gate-counts, omega (arith, reach .fewests, i .3 .fewests), omega (arith, reach .anys, i .3 .anys), omega (arith, reach .any-weights, i .3 .any-weights)),
+        branches (t .before),
         (
           room t,
           (
-            unmarked-branches (a .n) (a .nodes .now) (a .wires .now) (a .obstacles .now) (a .lo .now) (a .hi .now) (a .host .now) (a .fixed .now) (a .gates .now) ready (l .cut) (l .r - 1) (rw (one-less t) (i .2)),
-            hung-above (a .n) (a .nodes .now) (a .wires .now) (a .obstacles .now) (a .lo .now) (a .hi .now) (a .host .now) (a .fixed .now) (a .gates .now) ready (l .r - 1) (inside t),
+            unmarked-branches (a .n) (a .nodes .now) (a .wires .now) (a .obstacles .now) (a .lo .now) (a .hi .now) (a .host .now) (a .fixed .now) (a .gates .now) ready (l .cut-any) (l .r - 1) (rw (one-less t) (i .2)),
+            (
+              (inside t, hung-above (a .n) (a .nodes .now) (a .wires .now) (a .obstacles .now) (a .lo .now) (a .hi .now) (a .host .now) (a .fixed .now) (a .gates .now) ready (l .r - 1) (inside t)),
+              s .pre .1 .1 .1 .0 (l .r - 1) (inside t),
+            ),
           ),
         ),
       ),
     )
 
-same-length : tie.Need-same-length Inv-loop μ-loop
-same-length c = let t : tie.After-close-at Inv-loop μ-loop = c .before .before .before .before .before .before .before .before .before in t .close-at .kept .1 .1 .1 .1 .1 .1 .1 .1 .0 ∙ entered t .before .loop .inv .3 .cuts
+mul-fewest : tie.Need-mul-fewest Inv-loop μ-loop
+mul-fewest c = let t = entered (closed c) in omega (arith, inside t, start (t .before) .pre .0 .few)
 
-same-length-2 : tie.Need-same-length-2 Inv-loop μ-loop
-same-length-2 c = let t : tie.After-close-at Inv-loop μ-loop = c .before .before .before .before .before .before .before .before .before in t .close-at .kept .1 .1 .1 .1 .1 .1 .1 .1 .1 .0 ∙ entered t .before .loop .inv .3 .fewests
+slice-write-fewest : tie.Need-slice-write-fewest Inv-loop μ-loop
+slice-write-fewest c = let t = entered (closed c) in omega (arith, inside t, lengths (t .before) .fewests)
 
-same-length-3 : tie.Need-same-length-3 Inv-loop μ-loop
-same-length-3 c = let t : tie.After-close-at Inv-loop μ-loop = c .before .before .before .before .before .before .before .before .before in t .close-at .kept .1 .1 .1 .1 .1 .1 .1 .1 .1 .1 .0 ∙ entered t .before .loop .inv .3 .anys
+slice-write-any-ok : tie.Need-slice-write-any-ok Inv-loop μ-loop
+slice-write-any-ok c = let t = entered (closed c) in omega (arith, inside t, lengths (t .before) .anys)
 
-same-length-4 : tie.Need-same-length-4 Inv-loop μ-loop
-same-length-4 c = let t : tie.After-close-at Inv-loop μ-loop = c .before .before .before .before .before .before .before .before .before in t .close-at .kept .1 .1 .1 .1 .1 .1 .1 .1 .1 .1 .1 .0 ∙ entered t .before .loop .inv .3 .any-weights
+mul-any-weight : tie.Need-mul-any-weight Inv-loop μ-loop
+mul-any-weight c = let t = entered (closed c) in omega (arith, inside t, start (t .before) .pre .0 .few)
 
-same-length-5 : tie.Need-same-length-5 Inv-loop μ-loop
-same-length-5 c = let t : tie.After-close-at Inv-loop μ-loop = c .before .before .before .before .before .before .before .before .before in entered t .before .loop .inv .3 .counts
+slice-write-any-weight : tie.Need-slice-write-any-weight Inv-loop μ-loop
+slice-write-any-weight c = let t = entered (closed c) in omega (arith, inside t, lengths (t .before) .any-weights)
 
-same-length-6 : tie.Need-same-length-6 Inv-loop μ-loop
-same-length-6 c = let t : tie.After-close-at Inv-loop μ-loop = c .before .before .before .before .before .before .before .before .before in entered t .before .loop .inv .3 .lights
+mul-climb-at-3 : tie.Need-mul-climb-at-3 Inv-loop μ-loop
+mul-climb-at-3 c = let t = entered (closed c) in omega (arith, inside t, start (t .before) .pre .0 .few)
 
-same-length-7 : tie.Need-same-length-7 Inv-loop μ-loop
-same-length-7 c = let t : tie.After-close-at Inv-loop μ-loop = c .before .before .before .before .before .before .before .before .before in entered t .before .loop .inv .3 .flags
+shared-slice-read-climb-at-3 : tie.Need-shared-slice-read-climb-at-3 Inv-loop μ-loop
+shared-slice-read-climb-at-3 c = let t = entered (closed (c .before)) in omega (arith, inside t, lengths (t .before) .hanging .los)
 
-same-length-8 : tie.Need-same-length-8 Inv-loop μ-loop
-same-length-8 c = let t : tie.After-close-at Inv-loop μ-loop = c .before .before .before .before .before .before .before .before .before in entered t .before .loop .inv .3 .ungateds
+mul-climb-at-4 : tie.Need-mul-climb-at-4 Inv-loop μ-loop
+mul-climb-at-4 c = let t = entered (closed (c .before)) in omega (arith, inside t, start (t .before) .pre .0 .few)
 
-same-length-9 : tie.Need-same-length-9 Inv-loop μ-loop
-same-length-9 c = let t : tie.After-close-at Inv-loop μ-loop = c .before .before .before .before .before .before .before .before .before in entered t .before .loop .inv .3 .nears
-
-returns : tie.Need-returns Inv-loop μ-loop
-returns c =
-    let t : tie.After-close-at Inv-loop μ-loop = c .before .before .before .before .before .before .before .before .before in (
-      (λ h. record { at = entered t .before .loop .r - 1; inside = inside (entered t); gated = t .close-at .ensures .0 .gated (c .if1 .taken); heavy = t .close-at .ensures .0 .heavy (c .if1 .taken) }),
-      ((λ h. absurd (true≢false h)), (λ h. absurd (true≢false h))),
-    )
+shared-slice-read-climb-at-4 : tie.Need-shared-slice-read-climb-at-4 Inv-loop μ-loop
+shared-slice-read-climb-at-4 c = let t = entered (closed (c .before .before)) in omega (arith, inside t, lengths (t .before) .his)
 
 climb-at-requires : tie.Need-climb-at-requires Inv-loop μ-loop
 climb-at-requires c κs =
-    let e : tie.Else1 Inv-loop μ-loop = c .before .before .before .before .before in
-    let t = closed e in
-    let s = start (entered t .before) in
+    let u = closed (c .before .before) in
+    let t = entered u in
+    let s = start (t .before) in
     let a = s .args in
-    let l = entered t .before .loop in
-    let i = l .inv in
-    let ready = s .pre .0 in
-    let reach = s .pre .1 .0 in
-    let p = inside (entered t) in
-    let q = l .r - 1 in
-    let x = t .close-at .result in (
-      (omega (arith, ready .los), omega (arith, ready .his), omega (arith, reach .counts, i .3 .counts), omega (arith, reach .lights, i .3 .lights), omega (arith, reach .flags, i .3 .flags), omega (arith, reach .ungateds, i .3 .ungateds), omega (arith, reach .nears, i .3 .nears)),
-      (
-        (λ h. branch-of (a .n) (a .nodes .now) (a .wires .now) (a .obstacles .now) (a .lo .now) (a .hi .now) (a .host .now) (a .fixed .now) (a .gates .now) ready q p h),
-        closable (a .n) (a .lo .now) (a .host .now) (l .count) (l .lightest) (l .ungatable) (l .ungated) (t .close-at .last .1 .1 .1 .1 .1 .1 .1 .1 .0) q (getD (a .fixed .now) q 0) (getD (a .gates .now) q 0) (a .limit)
-            (x .fewest) (x .any) (x .anyweight) (x .ungated) (x .ungatedweight) (room (entered t)) (t .close-at .ensures .0 .closed (e .if1 .left)),
-      ),
+    let l = t .before .loop in
+    let q = l .r - 1 in (
+      (λ h. branch-of (a .n) (a .nodes .now) (a .wires .now) (a .obstacles .now) (a .lo .now) (a .hi .now) (a .host .now) (a .fixed .now) (a .gates .now) (s .pre .0) q (inside t) h),
+      closable (a .n) (a .lo .now) (a .host .now) (l .count) (l .lightest) (l .has-ungated) (l .ungated) (u .close .last .1 .1 .1 .1 .1 .1 .0) (clusterAt (a .fixed .now) (a .gates .now) q) (a .limit) (u .close .result) (room t) (u .close .ensures .closed),
     )
 
+mul-count : tie.Need-mul-count Inv-loop μ-loop
+mul-count c = let t = entered (closed (stored c)) in omega (arith, inside t, start (t .before) .pre .0 .few)
+
+slice-write-count : tie.Need-slice-write-count Inv-loop μ-loop
+slice-write-count c = let t = entered (closed (stored c)) in omega (arith, inside t, branches (t .before) .counts)
+
+mul-lightest : tie.Need-mul-lightest Inv-loop μ-loop
+mul-lightest c = let t = entered (closed (stored c)) in omega (arith, inside t, start (t .before) .pre .0 .few)
+
+slice-write-lightest : tie.Need-slice-write-lightest Inv-loop μ-loop
+slice-write-lightest c = let t = entered (closed (stored c)) in omega (arith, inside t, branches (t .before) .lights)
+
+slice-write-has-ungated : tie.Need-slice-write-has-ungated Inv-loop μ-loop
+slice-write-has-ungated c = let t = entered (closed (stored c)) in omega (arith, inside t, branches (t .before) .flags)
+
+mul-ungated : tie.Need-mul-ungated Inv-loop μ-loop
+mul-ungated c = let t = entered (closed (stored c)) in omega (arith, inside t, start (t .before) .pre .0 .few)
+
+slice-write-ungated : tie.Need-slice-write-ungated Inv-loop μ-loop
+slice-write-ungated c = let t = entered (closed (stored c)) in omega (arith, inside t, branches (t .before) .weights)
+
+mul-near : tie.Need-mul-near Inv-loop μ-loop
+mul-near c = let t = entered (closed (stored c)) in omega (arith, inside t, start (t .before) .pre .0 .few)
+
+slice-write-near : tie.Need-slice-write-near Inv-loop μ-loop
+slice-write-near c = let t = entered (closed (stored c)) in omega (arith, inside t, lengths (t .before) .nears)
+
 loop-less : tie.Need-loop-less Inv-loop μ-loop
-loop-less c = let t : tie.After-climb-at Inv-loop μ-loop = c .before .before .before .before .before .before .before .before .before .before in omega (arith, entered (closed (climbed t)) .loop-test .taken)
+loop-less c = omega (arith, entered (closed (stored c)) .loop-test .taken)
 
 loop-again : tie.Need-loop-again Inv-loop μ-loop
 loop-again c =
-    let u : tie.After-climb-at Inv-loop μ-loop = c .before .before .before .before .before .before .before .before .before .before in
-    let e = climbed u in
-    let t = closed e in
-    let s = start (entered t .before) in
+    let u = closed (stored c) in
+    let t = entered u in
+    let s = start (t .before) in
     let a = s .args in
-    let l = entered t .before .loop in
+    let l = t .before .loop in
     let i = l .inv in
     let ready = s .pre .0 in
-    let reach = s .pre .1 .0 in
     let q = l .r - 1 in
-    let x = t .close-at .result in
-    let z = t .close-at .ensures .1 in (
-      omega (arith, inside (entered t)),
-      counted-turn (a .n) (a .nodes .now) (a .wires .now) (a .obstacles .now) (a .lo .now) (a .hi .now) (a .host .now) (a .fixed .now) (a .gates .now) ready (a .limit) q (inside (entered t)) (l .cut) (t .close-at .last .1 .1 .1 .1 .1 .1 .1 .1 .0) (l .fewest) (l .any) (l .anyweight)
-          (l .count) (l .lightest) (l .ungatable) (l .ungated) (l .near)
-          (u .climb-at .last .1 .1 .1 .1 .1 .0) (u .climb-at .last .1 .1 .1 .1 .1 .1 .0) (u .climb-at .last .1 .1 .1 .1 .1 .1 .1 .0) (u .climb-at .last .1 .1 .1 .1 .1 .1 .1 .1 .0) (u .climb-at .last .1 .1 .1 .1 .1 .1 .1 .1 .1 .0)
-          (x .fewest) (x .any) (x .anyweight) (x .ungated) (x .ungatedweight) (x .hopeless)
-          (t .close-at .ensures .0)
-          (e .if1 .left)
-          (u .climb-at .ensures)
-          (omega (arith, reach .fewests, i .3 .fewests)) (omega (arith, reach .anys, i .3 .anys)) (omega (arith, reach .any-weights, i .3 .any-weights))
-          (rw (one-less (entered t)) (i .1)) (z .0) (z .1) (z .2),
-      unmarked-less (a .n) (a .nodes .now) (a .wires .now) (a .obstacles .now) (a .lo .now) (a .hi .now) (a .host .now) (a .fixed .now) (a .gates .now) ready (l .cut) (t .close-at .last .1 .1 .1 .1 .1 .1 .1 .1 .0) q (rw (one-less (entered t)) (i .2)) (t .close-at .ensures .0 .others),
+    let x = u .close .result in
+    let y = c .climb-at .result in
+    let marks = u .close .last .1 .1 .1 .1 .1 .1 .0 in (
+      omega (arith, inside t),
+      counted-turn (a .n) (a .nodes .now) (a .wires .now) (a .obstacles .now) (a .lo .now) (a .hi .now) (a .host .now) (a .fixed .now) (a .gates .now) ready (a .limit) q (inside t)
+          (l .cut-any) marks (l .any-ok) (l .any-weight) (l .has-ungated) (l .near) (l .fewest) (l .count) (l .lightest) (l .ungated) x y
+          (u .close .ensures) (c .climb-at .ensures) (lengths (t .before)) (branches (t .before)) (rw (one-less t) (i .1)),
+      unmarked-less (a .n) (a .nodes .now) (a .wires .now) (a .obstacles .now) (a .lo .now) (a .hi .now) (a .host .now) (a .fixed .now) (a .gates .now) ready (l .cut-any) marks q (rw (one-less t) (i .2)) (u .close .ensures .others),
       record {
-        cuts = t .close-at .kept .1 .1 .1 .1 .1 .1 .1 .1 .0 ∙ i .3 .cuts;
-        fewests = t .close-at .kept .1 .1 .1 .1 .1 .1 .1 .1 .1 .0 ∙ i .3 .fewests;
-        anys = t .close-at .kept .1 .1 .1 .1 .1 .1 .1 .1 .1 .1 .0 ∙ i .3 .anys;
-        any-weights = t .close-at .kept .1 .1 .1 .1 .1 .1 .1 .1 .1 .1 .1 .0 ∙ i .3 .any-weights;
-        counts = u .climb-at .kept .1 .1 .1 .1 .1 .0 ∙ i .3 .counts;
-        lights = u .climb-at .kept .1 .1 .1 .1 .1 .1 .0 ∙ i .3 .lights;
-        flags = u .climb-at .kept .1 .1 .1 .1 .1 .1 .1 .0 ∙ i .3 .flags;
-        ungateds = u .climb-at .kept .1 .1 .1 .1 .1 .1 .1 .1 .0 ∙ i .3 .ungateds;
-        nears = u .climb-at .kept .1 .1 .1 .1 .1 .1 .1 .1 .1 .0 ∙ i .3 .nears;
+        cuts = u .close .ensures .long ∙ i .3 .cuts;
+        anys = length-set (l .any-ok) q (x .«any_ok») ∙ i .3 .anys;
+        any-weights = length-set (l .any-weight) q (x .«any_weight») ∙ i .3 .any-weights;
+        flags = length-set (l .has-ungated) q (y .«has_ungated») ∙ i .3 .flags;
+        nears = length-set (l .near) q (y .near) ∙ i .3 .nears;
+        fewests = length-set (l .fewest) q (x .fewest) ∙ i .3 .fewests;
+        counts = length-set (l .count) q (y .count) ∙ i .3 .counts;
+        lights = length-set (l .lightest) q (y .lightest) ∙ i .3 .lights;
+        ungateds = length-set (l .ungated) q (y .ungated) ∙ i .3 .ungateds;
       },
     )
 
-total-points-requires : tie.Need-total-points-requires Inv-loop μ-loop
-total-points-requires c κs =
-    let h : tie.At-loop Inv-loop μ-loop = c .before .before in
-    let s = start h in
-    let a = s .args in
-    let l = h .loop in
-    let ready = s .pre .0 in
-    let z : l .r ≡ 0 = omega (arith, c .before .loop-test .left) in
-    (ready .los, omega (arith, s .pre .1 .0 .fewests, l .inv .3 .fewests), omega (arith, roots-few (a .n) (a .nodes .now) (a .wires .now) (a .obstacles .now) (a .lo .now) (a .hi .now) (a .host .now) (a .fixed .now) (a .gates .now) ready (a .limit) (l .cut) (l .fewest) (l .any) (l .anyweight) (l .count) (l .lightest) (l .ungatable) (l .ungated) (l .near) (rw z at (l .inv .1)), ready .few))
+same-length : tie.Need-same-length Inv-loop μ-loop
+same-length c = c .before .loop .inv .3 .cuts
 
-same-length-10 : tie.Need-same-length-10 Inv-loop μ-loop
-same-length-10 c = c .before .before .before .loop .inv .3 .cuts
+same-length-2 : tie.Need-same-length-2 Inv-loop μ-loop
+same-length-2 c = c .before .loop .inv .3 .anys
 
-same-length-11 : tie.Need-same-length-11 Inv-loop μ-loop
-same-length-11 c = c .before .before .before .loop .inv .3 .fewests
+same-length-3 : tie.Need-same-length-3 Inv-loop μ-loop
+same-length-3 c = c .before .loop .inv .3 .any-weights
 
-same-length-12 : tie.Need-same-length-12 Inv-loop μ-loop
-same-length-12 c = c .before .before .before .loop .inv .3 .anys
+same-length-4 : tie.Need-same-length-4 Inv-loop μ-loop
+same-length-4 c = c .before .loop .inv .3 .flags
 
-same-length-13 : tie.Need-same-length-13 Inv-loop μ-loop
-same-length-13 c = c .before .before .before .loop .inv .3 .any-weights
+same-length-5 : tie.Need-same-length-5 Inv-loop μ-loop
+same-length-5 c = c .before .loop .inv .3 .nears
 
-same-length-14 : tie.Need-same-length-14 Inv-loop μ-loop
-same-length-14 c = c .before .before .before .loop .inv .3 .counts
+same-length-6 : tie.Need-same-length-6 Inv-loop μ-loop
+same-length-6 c = c .before .loop .inv .3 .fewests
 
-same-length-15 : tie.Need-same-length-15 Inv-loop μ-loop
-same-length-15 c = c .before .before .before .loop .inv .3 .lights
+same-length-7 : tie.Need-same-length-7 Inv-loop μ-loop
+same-length-7 c = c .before .loop .inv .3 .counts
 
-same-length-16 : tie.Need-same-length-16 Inv-loop μ-loop
-same-length-16 c = c .before .before .before .loop .inv .3 .flags
+same-length-8 : tie.Need-same-length-8 Inv-loop μ-loop
+same-length-8 c = c .before .loop .inv .3 .lights
 
-same-length-17 : tie.Need-same-length-17 Inv-loop μ-loop
-same-length-17 c = c .before .before .before .loop .inv .3 .ungateds
+same-length-9 : tie.Need-same-length-9 Inv-loop μ-loop
+same-length-9 c = c .before .loop .inv .3 .ungateds
 
-same-length-18 : tie.Need-same-length-18 Inv-loop μ-loop
-same-length-18 c = c .before .before .before .loop .inv .3 .nears
-
-returns-2 : tie.Need-returns-2 Inv-loop μ-loop
-returns-2 c =
-    let l = c .before .before .before .loop in
-    let z : l .r ≡ 0 = omega (arith, c .before .before .loop-test .left) in
-    ((λ h. absurd (false≢true h)), ((λ h. rw z at (l .inv .1)), (λ h. c .total-points .ensures)))
+returns : tie.Need-returns Inv-loop μ-loop
+returns c =
+    let l = c .before .loop in
+    let z : l .r ≡ 0 = omega (arith, c .loop-test .left) in
+    rw z at (l .inv .1)
 
 pub count-clusters-spec : {M : Type 1} → statement M
 count-clusters-spec =
@@ -242,7 +273,32 @@ count-clusters-spec =
     μ-loop
     loop-holds
     sub-r
-    close-at-requires
+    mul-climb-at
+    shared-slice-read-climb-at
+    mul-climb-at-2
+    shared-slice-read-climb-at-2
+    close-requires
+    mul-fewest
+    slice-write-fewest
+    slice-write-any-ok
+    mul-any-weight
+    slice-write-any-weight
+    mul-climb-at-3
+    shared-slice-read-climb-at-3
+    mul-climb-at-4
+    shared-slice-read-climb-at-4
+    climb-at-requires
+    mul-count
+    slice-write-count
+    mul-lightest
+    slice-write-lightest
+    slice-write-has-ungated
+    mul-ungated
+    slice-write-ungated
+    mul-near
+    slice-write-near
+    loop-less
+    loop-again
     same-length
     same-length-2
     same-length-3
@@ -252,18 +308,4 @@ count-clusters-spec =
     same-length-7
     same-length-8
     same-length-9
-    returns
-    climb-at-requires
-    loop-less
-    loop-again
-    total-points-requires
-    same-length-10
-    same-length-11
-    same-length-12
-    same-length-13
-    same-length-14
-    same-length-15
-    same-length-16
-    same-length-17
-    same-length-18
-    returns-2)
+    returns)

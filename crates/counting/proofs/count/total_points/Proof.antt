@@ -5,7 +5,7 @@ use mathlib.Core.Path.{_≡_, sym}
 use mathlib.Core.Logic.{⊎-elim}
 use native.Mathlib.Omega.{arith}
 use Rattle.counting.specs.Count.{rootSum}
-use Rattle.counting.specs.CountStored.{roots-none, roots-more, roots-same, roots-room}
+use Rattle.counting.specs.CountTotal.{roots-none, roots-more, roots-same, roots-room}
 use Rattle.counting.proofs.count.total_points.Statement.{statement}
 use Rattle.counting.proofs.count.total_points.Tie as tie
 
