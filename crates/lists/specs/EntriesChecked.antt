@@ -1,15 +1,15 @@
 -- Which refusal each test of a jumper list shows.
 -- Assumes nothing.
-use Prim.Native.Nat.{ℕ, _-_, _%_, _<_, _≤_}
+use Prim.Native.Nat.{ℕ, _-_, _*_, _%_, _<_, _≤_}
 use mathlib.Core.Path.{_≡_, refl, sym}
 use mathlib.Core.Bool.{Bool, true, false, not, _&&_, _||_}
 use mathlib.Core.List.{List}
 use native.Mathlib.Omega.{arith}
 use lib.ListN.{length}
 use lib.Dec.{leb, ltb, eqb}
-use borrow.Author.Tests.{ltb-true, lt-ltb, le-ltb, lt-leb, le-leb, eq-eqb, ne-eqb}
-use Rattle.laws.specs.Sums.{and-left, and-right}
-use Rattle.net.specs.Layout.{entryBytes}
+use borrow.Author.Tests.{ltb-true, ltb-false, lt-ltb, le-ltb, lt-leb, le-leb, eq-eqb, ne-eqb}
+use Rattle.laws.specs.Sums.{by, and-left, and-right}
+use Rattle.net.specs.Layout.{wireBytes, entryBytes}
 use Rattle.net.specs.declared.Refusal.{Refusal}
 use Rattle.net.specs.Net.{nodeCount, wireLayer, wireLength, barred}
 use Rattle.net.specs.Stage.{Stage, stageOf}
@@ -58,28 +58,35 @@ module _ (list : List ℕ) (e : ℕ) where
 
 -- a position lies inside a wire: each test after those before it
 module _ (ns ws : List ℕ) (k i t : ℕ) where
-  pub lies-zero : i ≡ 0 → false ≡ liesInside ns ws k i t
+  pub lies-no-wire : nodeCount ns ≤ i → false ≡ liesInside ns ws k i t
   unfolding liesInside
-  lies-zero z = let l : i ≤ 0 = omega arith in rw (le-ltb _ _ l)
+  lies-no-wire h = rw (le-ltb _ _ h) (bools (ltb 0 i) (leb (wireLayer ws i) k) (leb 1 t && ltb t (wireLength ns ws i)))
+    where
+      bools : (a b c : Bool) → false ≡ ((a && (false && b)) && c)
+      bools true b c = refl
+      bools false b c = refl
 
-  module _ (a : 0 < i) where
-    pub lies-no-wire : nodeCount ns ≤ i → false ≡ liesInside ns ws k i t
+  module _ (a : i < nodeCount ns) where
+    pub lies-absent : (ltb 0 i && leb (wireLayer ws i) k) ≡ false → false ≡ liesInside ns ws k i t
     unfolding liesInside
-    lies-no-wire h = rw (lt-ltb _ _ a, le-ltb _ _ h)
+    lies-absent z = rw (lt-ltb _ _ a, z)
 
-    module _ (b : i < nodeCount ns) where
-      pub lies-absent : k < wireLayer ws i → false ≡ liesInside ns ws k i t
+    module _ (y : (ltb 0 i && leb (wireLayer ws i) k) ≡ true) where
+      pub lies-at-node : t ≡ 0 → false ≡ liesInside ns ws k i t
       unfolding liesInside
-      lies-absent h = rw (lt-ltb _ _ a, lt-ltb _ _ b, lt-leb _ _ h)
+      lies-at-node z = let l : t < 1 = omega arith in rw (lt-ltb _ _ a, y, lt-leb _ _ l)
 
-      module _ (c : wireLayer ws i ≤ k) where
-        pub lies-at-node : t ≡ 0 → false ≡ liesInside ns ws k i t
-        unfolding liesInside
-        lies-at-node z = let l : t < 1 = omega arith in rw (lt-ltb _ _ a, lt-ltb _ _ b, le-leb _ _ c, lt-leb _ _ l)
+      pub lies-below : 0 < t → ltb t (wireLength ns ws i) ≡ liesInside ns ws k i t
+      unfolding liesInside
+      lies-below h = let l : 1 ≤ t = omega arith in rw (lt-ltb _ _ a, y, le-leb _ _ l)
 
-        pub lies-below : 0 < t → ltb t (wireLength ns ws i) ≡ liesInside ns ws k i t
-        unfolding liesInside
-        lies-below h = let l : 1 ≤ t = omega arith in rw (lt-ltb _ _ a, lt-ltb _ _ b, le-leb _ _ c, le-leb _ _ l)
+-- the bytes of a wire that is numbered, and what was checked of one that the stage has
+module _ (ns ws : List ℕ) (checked : WiresChecked ns ws) (i : ℕ) (h : i < nodeCount ns) where
+  pub wire-stored : wireBytes * i ≤ length ws
+  wire-stored = by (ltb 0 i) (λ y. checked i (ltb-true 0 i y) h .stored) (λ z. let l = ltb-false 0 i z in omega arith)
+
+  pub present-checked : (k : ℕ) → (ltb 0 i && leb (wireLayer ws i) k) ≡ true → Checked ns ws i
+  present-checked k y = checked i (ltb-true 0 i (and-left (ltb 0 i) (leb (wireLayer ws i) k) y)) h
 
 -- where it lies inside, there is such a wire
 module _ (ns ws : List ℕ) (k i t : ℕ) (h : true ≡ liesInside ns ws k i t) where

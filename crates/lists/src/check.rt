@@ -5,8 +5,8 @@ use crate::entries::entry_wire;
 use net::Refusal;
 use net::answers::none;
 use net::answers::refused;
+use net::fields::is_present;
 use net::fields::node_count;
-use net::fields::wire_layer;
 use net::layout::ENTRY_BYTES;
 use points::is_barred;
 use points::length_of;
@@ -43,13 +43,10 @@ fn lies_inside(stage: u8, nodes: &[u8], wires: &[u8], i: usize, t: u32) -> bool
     requires { ⌜ WiresChecked (now nodes) (now wires) ⌝ }
     ensures { λ r. ⌜ r ≡ liesInside (now (nodes .entry)) (now (wires .entry)) stage i t ⌝ }
 {
-    if i == 0 {
-        return false;
-    }
     if node_count(nodes) <= i {
         return false;
     }
-    if stage < wire_layer(wires, i) {
+    if !is_present(stage, wires, i) {
         return false;
     }
     if t == 0 {
