@@ -117,6 +117,16 @@ fileJ = fileOf nodesJ wiresJ []
 pub fileC : List ℕ
 fileC = fileOf nodesC wiresC (bar 0 12)
 
+-- net A with positions 6 and 7 barred, with a source, and with its wire on layer 2
+pub fileBarred : List ℕ
+fileBarred = fileOf (nodesA 1) (wiresA 1) (bar 6 7)
+
+pub fileSource : List ℕ
+fileSource = fileOf (nodesA 3) (wiresA 1) []
+
+pub fileAbsent : List ℕ
+fileAbsent = fileOf (nodesA 1) (wiresA 2) []
+
 module _ {out after : List ℕ} {r : Answer} where
   -- not one empty list for all nets, nor two jumpers: net A at limit 12 gets one
   pub a-12 : Repaired 1 12 fileA out after r → 3 ≤ length out → r ≡ answer none 1
@@ -152,3 +162,18 @@ module _ {out after : List ℕ} {r : Answer} where
   pub c-11 : Repaired 1 11 fileC out after r → (r ≡ answer (refusal 15 0) 0) × (after ≡ out)
   unfolding fileC fileOf headOf pairsRight stretch stageRefusal readRefusal headRefusal pairsRefusal netRefusal sectionsRefusal nodeRefusal wireRefusal obstacleRefusal firstOf sectionOf
   c-11 p = answer-none (small-nets .c-11) (p .judged refl)
+
+  -- not a wire skipped because its middle is barred: net A at limit 7 gets a jumper on either side
+  pub bar-6-7 : Repaired 1 7 fileBarred out after r → 6 ≤ length out → r ≡ answer none 2
+  unfolding fileBarred fileOf headOf pairsRight stretch stageRefusal readRefusal headRefusal pairsRefusal netRefusal sectionsRefusal nodeRefusal wireRefusal obstacleRefusal firstOf sectionOf
+  bar-6-7 p fits = answer-least (small-nets .bar-6-7) (p .judged refl) fits
+
+  -- not a source's piece counted as harmful: net A with a source at limit 0 needs no byte
+  pub source-0 : Repaired 1 0 fileSource out after r → r ≡ answer none 0
+  unfolding fileSource fileOf headOf pairsRight stretch stageRefusal readRefusal headRefusal pairsRefusal netRefusal sectionsRefusal nodeRefusal wireRefusal obstacleRefusal firstOf sectionOf
+  source-0 p = answer-least (small-nets .source-0) (p .judged refl) (omega arith)
+
+  -- not an absent wire weighed: net A with its wire on layer 2 at limit 0 needs no byte
+  pub absent-0 : Repaired 1 0 fileAbsent out after r → r ≡ answer none 0
+  unfolding fileAbsent fileOf headOf pairsRight stretch stageRefusal readRefusal headRefusal pairsRefusal netRefusal sectionsRefusal nodeRefusal wireRefusal obstacleRefusal firstOf sectionOf
+  absent-0 p = answer-least (small-nets .absent-0) (p .judged refl) (omega arith)

@@ -1,9 +1,5 @@
 // The public calls of the desk as C exports. Each takes any input and carries the whole promise of the call behind it.
 use net::Answer;
-use net::answers::answered;
-use net::call::call_refusal;
-use net::sections;
-use repairs::judge;
 ghost use mathlib.Core.Path.{_≡_};
 ghost use lib.ListN.{length};
 ghost use Rattle.repairs.specs.Promise.{Repaired};
@@ -50,16 +46,5 @@ pub extern "C" fn antenna_report(
 pub extern "C" fn antenna_repair(stage: u32, limit: u32, file: &[u8], out: &mut [u8]) -> Answer
     ensures { λ r. ⌜ Repaired stage limit (now (file .entry)) (now (out .entry)) (now (out .exit)) r ⌝ }
 {
-    let r = call_refusal(stage, file);
-    if r.number != 0 {
-        return answered(r, 0);
-    }
-    judge(
-        sections::nodes(file),
-        sections::wires(file),
-        sections::obstacles(file),
-        stage as u8,
-        limit,
-        out,
-    )
+    repairs::repair(stage, limit, file, out)
 }

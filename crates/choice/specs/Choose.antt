@@ -7,7 +7,7 @@ use mathlib.Core.List.{List}
 use lib.ListN.{length, getD}
 use lib.Dec.{leb, ltb}
 use Rattle.net.specs.Layout.{wireBytes}
-use Rattle.clusters.specs.Scan.{cuttable}
+use Rattle.clusters.specs.FirstPasses.{cuttable}
 use Rattle.clusters.specs.Stretch.{stretchWeight}
 
 -- the host of branch r takes the any-option

@@ -14,7 +14,7 @@ use Rattle.net.specs.Stage.{Stage}
 use Rattle.net.specs.Net.{wireFactor}
 use Rattle.cuts.specs.Passes.{Chosen}
 use Rattle.clusters.specs.Arrays.{clustersOf, downOf, upOf}
-use Rattle.clusters.specs.Scan.{cuttable}
+use Rattle.clusters.specs.FirstPasses.{cuttable}
 use Rattle.choice.specs.Choose.{cutHere, anyHere, Chooses}
 
 module _ (ws lo hi host : List ℕ) (cut ok : List Bool) (weight : List ℕ) (ungatable : List Bool) (near : List ℕ) (limit : ℕ) where

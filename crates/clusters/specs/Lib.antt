@@ -1,7 +1,10 @@
 pub mod Arrays
 pub mod Stretch
-pub mod Scan
-pub mod ScanLaws
-pub mod ScanEnds
-pub mod ScanWeights
-pub mod ScanFits
+pub mod FirstPasses
+pub mod Turns
+pub mod EndsLaws
+pub mod Weights
+pub mod FitsLaws
+pub mod Hopeless
+pub mod HopelessLaws
+pub mod Excluded

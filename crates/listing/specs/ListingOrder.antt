@@ -14,6 +14,7 @@ use lib.Seq.{getD-append-add}
 use Rattle.laws.specs.Sum.{χ, any}
 use Rattle.laws.specs.Sums.{last-or-below, any-ap}
 use Rattle.laws.specs.Numbers.{le16-bytes16}
+use Rattle.net.specs.Limits.{lengthBound}
 use Rattle.net.specs.Layout.{entryBytes}
 use Rattle.pieces.specs.Legal.{entryWire, entryPosition, listed, Rises, by-wire, by-position}
 use Rattle.listing.specs.Listing.{entry, entryIf}
@@ -57,12 +58,12 @@ module _ (list : List ℕ) (m : ℕ) (whole : length list ≡ entryBytes * m) wh
   wire-new : (w p : ℕ) → entryWire (list ++ entry w p) m ≡ w
   wire-new w p = byte-new (entry w p) (entryBytes * m) 0 (omega arith)
 
-  position-new : (w p : ℕ) → p < 65536 → entryPosition (list ++ entry w p) m ≡ p
+  position-new : (w p : ℕ) → p < lengthBound → entryPosition (list ++ entry w p) m ≡ p
   position-new w p h =
       rw (byte-new (entry w p) (entryBytes * m + 1) 1 refl, byte-new (entry w p) (entryBytes * m + 1 + 1) 2 (omega arith)) (le16-bytes16 p h)
 
   -- the set with it
-  pub listed-push : (w p : ℕ) → p < 65536 → (i t : ℕ) → listed (list ++ entry w p) (suc m) i t ≡ (listed list m i t || (eqb w i && eqb p t))
+  pub listed-push : (w p : ℕ) → p < lengthBound → (i t : ℕ) → listed (list ++ entry w p) (suc m) i t ≡ (listed list m i t || (eqb w i && eqb p t))
   unfolding listed any
   listed-push w p h i t =
       let a =
@@ -73,7 +74,7 @@ module _ (list : List ℕ) (m : ℕ) (whole : length list ≡ entryBytes * m) wh
       rw (a, wire-new w p, position-new w p h)
 
 -- one entry more
-pub ahead-push : {list : List ℕ} {m w p : ℕ} (q : ℕ) → p ≤ q → q < 65536 → Ahead list m w p → Ahead (list ++ entry w q) (suc m) w (suc q)
+pub ahead-push : {list : List ℕ} {m w p : ℕ} (q : ℕ) → p ≤ q → q < lengthBound → Ahead list m w p → Ahead (list ++ entry w q) (suc m) w (suc q)
 ahead-push {list} {m} {w} {p} q l h a =
     record {
       whole = let z = length-append list (entry w q) in let y = a .whole in omega arith;
@@ -119,11 +120,11 @@ ahead-push {list} {m} {w} {p} q l h a =
             by-position (omega arith) (omega arith)
 
 -- one entry more where a test holds
-pub ahead-if : {list : List ℕ} {m w p : ℕ} (t : Bool) (q : ℕ) → (t ≡ true → p ≤ q) → q < 65536 → Ahead list m w p → Ahead (list ++ entryIf t w q) (m + χ t 1) w (cond t (suc q) p)
+pub ahead-if : {list : List ℕ} {m w p : ℕ} (t : Bool) (q : ℕ) → (t ≡ true → p ≤ q) → q < lengthBound → Ahead list m w p → Ahead (list ++ entryIf t w q) (m + χ t 1) w (cond t (suc q) p)
 ahead-if {list} {m} {w} {p} true q l h a = rw (add-one m) (ahead-push q (l refl) h a)
 ahead-if {list} {m} {w} {p} false q l h a = rw (append-nil list, add-zero m) a
 
-pub listed-if : (list : List ℕ) (m : ℕ) (t : Bool) (w q : ℕ) → length list ≡ entryBytes * m → q < 65536 → (i x : ℕ) → listed (list ++ entryIf t w q) (m + χ t 1) i x ≡ (listed list m i x || (t && (eqb w i && eqb q x)))
+pub listed-if : (list : List ℕ) (m : ℕ) (t : Bool) (w q : ℕ) → length list ≡ entryBytes * m → q < lengthBound → (i x : ℕ) → listed (list ++ entryIf t w q) (m + χ t 1) i x ≡ (listed list m i x || (t && (eqb w i && eqb q x)))
 listed-if list m true w q whole h i x = rw (add-one m) (listed-push list m whole w q h i x)
 listed-if list m false w q whole h i x = rw (append-nil list, add-zero m) (plain (listed list m i x))
   where

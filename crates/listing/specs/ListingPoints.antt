@@ -12,19 +12,20 @@ use borrow.Author.Tests.{eqb-true, eqb-false, ltb-true, lt-ltb, le-ltb, ltb-fals
 use Rattle.laws.specs.Sum.{χ, sum, any}
 use Rattle.laws.specs.Sums.{by}
 use Rattle.laws.specs.Gather.{gather}
+use Rattle.net.specs.Limits.{lengthBound}
 use Rattle.pieces.specs.Legal.{listed}
 use Rattle.listing.specs.Listing.{entryIf, listOf, countOf}
 use Rattle.listing.specs.ListingOrder.{Ahead, ahead-none, ahead-wire, ahead-if, listed-if}
 
 -- the positions of the wires below n have 16 bits, and a wire's own jumper lies below its highest cuttable point where it is cut there too
-pub record Listable (n : ℕ) (hi near : List ℕ) (high : List Bool) : Type 0 where
-  pub near-short : (r : ℕ) → r < n → getD near r 0 < 65536
-  pub hi-short : (r : ℕ) → r < n → getD hi r 0 < 65536
-  pub ordered : (r : ℕ) → r < n → ltb 0 (getD near r 0) ≡ true → getD high r false ≡ true → getD near r 0 < getD hi r 0
+pub record Listable (n : ℕ) (hi near : List ℕ) (cutHigh : List Bool) : Type 0 where
+  pub near-short : (r : ℕ) → r < n → getD near r 0 < lengthBound
+  pub hi-short : (r : ℕ) → r < n → getD hi r 0 < lengthBound
+  pub ordered : (r : ℕ) → r < n → ltb 0 (getD near r 0) ≡ true → getD cutHigh r false ≡ true → getD near r 0 < getD hi r 0
 
 -- position t of wire r is listed
 abbrev pub pointAt : List ℕ → List ℕ → List Bool → ℕ → ℕ → Bool
-pointAt hi near high r t = (ltb 0 (getD near r 0) && eqb (getD near r 0) t) || (getD high r false && eqb (getD hi r 0) t)
+pointAt hi near cutHigh r t = (ltb 0 (getD near r 0) && eqb (getD near r 0) t) || (getD cutHigh r false && eqb (getD hi r 0) t)
 
 -- a wire other than n is below n + 1 where it is below n
 no-more : (i n : ℕ) → eqb n i ≡ false → ltb i (suc n) ≡ ltb i n
@@ -34,8 +35,8 @@ no-more i n z =
     (λ y. let l = ltb-true i n y in rw y (lt-ltb i (suc n) (omega arith)))
     (λ x. let l = ltb-false i n x in rw x (le-ltb i (suc n) (omega arith)))
 
-module _ (hi near : List ℕ) (high : List Bool) where
-  fewer : (n : ℕ) → Listable (suc n) hi near high → Listable n hi near high
+module _ (hi near : List ℕ) (cutHigh : List Bool) where
+  fewer : (n : ℕ) → Listable (suc n) hi near cutHigh → Listable n hi near cutHigh
   fewer n l =
       record {
         near-short = λ r p. l .near-short r (omega arith);
@@ -43,19 +44,19 @@ module _ (hi near : List ℕ) (high : List Bool) where
         ordered = λ r p. l .ordered r (omega arith);
       }
 
-  pub list-ahead : (n : ℕ) → Listable n hi near high → Ahead (listOf n hi near high) (countOf n near high) n 0
+  pub list-ahead : (n : ℕ) → Listable n hi near cutHigh → Ahead (listOf n hi near cutHigh) (countOf n near cutHigh) n 0
   unfolding gather sum
   list-ahead zero l = ahead-none 0 0
   list-ahead (suc n) l =
       let a = getD near n 0 in
       let b = getD hi n 0 in
       let s = ltb 0 a in
-      let h = getD high n false in
+      let h = getD cutHigh n false in
       let done = list-ahead n (fewer n l) in
       let one = ahead-if s a (λ y. omega arith) (l .near-short n (omega arith)) done in
       let two = ahead-if h b (bound s h a b (l .ordered n (omega arith))) (l .hi-short n (omega arith)) one in
-      let e = append-assoc (listOf n hi near high) (entryIf s n a) (entryIf h n b) in
-      let f = add-assoc (countOf n near high) (χ s 1) (χ h 1) in
+      let e = append-assoc (listOf n hi near cutHigh) (entryIf s n a) (entryIf h n b) in
+      let f = add-assoc (countOf n near cutHigh) (χ s 1) (χ h 1) in
       rw (← e, ← f) (ahead-wire (suc n) 0 (omega arith) two)
     where
       bound : (s h : Bool) (a b : ℕ) → (s ≡ true → h ≡ true → a < b) → h ≡ true → cond s (suc a) 0 ≤ b
@@ -77,27 +78,27 @@ module _ (hi near : List ℕ) (high : List Bool) where
       plain false false true = refl
       plain false false false = refl
 
-  pub list-points : (n : ℕ) → Listable n hi near high → (i t : ℕ) → listed (listOf n hi near high) (countOf n near high) i t ≡ (ltb i n && pointAt hi near high i t)
+  pub list-points : (n : ℕ) → Listable n hi near cutHigh → (i t : ℕ) → listed (listOf n hi near cutHigh) (countOf n near cutHigh) i t ≡ (ltb i n && pointAt hi near cutHigh i t)
   unfolding gather sum listed any
   list-points zero l i t = rw (le-ltb i 0 (omega arith))
   list-points (suc n) l i t =
       let a = getD near n 0 in
       let b = getD hi n 0 in
       let s = ltb 0 a in
-      let h = getD high n false in
+      let h = getD cutHigh n false in
       let done = list-ahead n (fewer n l) in
       let one = ahead-if s a (λ y. omega arith) (l .near-short n (omega arith)) done in
-      let e = append-assoc (listOf n hi near high) (entryIf s n a) (entryIf h n b) in
-      let f = add-assoc (countOf n near high) (χ s 1) (χ h 1) in
-      let u = listed-if (listOf n hi near high) (countOf n near high) s n a (done .whole) (l .near-short n (omega arith)) i t in
-      let v = listed-if (listOf n hi near high ++ entryIf s n a) (countOf n near high + χ s 1) h n b (one .whole) (l .hi-short n (omega arith)) i t in
+      let e = append-assoc (listOf n hi near cutHigh) (entryIf s n a) (entryIf h n b) in
+      let f = add-assoc (countOf n near cutHigh) (χ s 1) (χ h 1) in
+      let u = listed-if (listOf n hi near cutHigh) (countOf n near cutHigh) s n a (done .whole) (l .near-short n (omega arith)) i t in
+      let v = listed-if (listOf n hi near cutHigh ++ entryIf s n a) (countOf n near cutHigh + χ s 1) h n b (one .whole) (l .hi-short n (omega arith)) i t in
       let w = list-points n (fewer n l) i t in
       rw (← e, ← f) (v ∙ (ap (λ (x : Bool). x || (h && (eqb n i && eqb b t))) (u ∙ ap (λ (x : Bool). x || (s && (eqb n i && eqb a t))) w)
-      ∙ (turn n i t (ltb i n && pointAt hi near high i t) s h a b (λ y. let q = eqb-true n i y in rw (le-ltb i n (omega arith)))
+      ∙ (turn n i t (ltb i n && pointAt hi near cutHigh i t) s h a b (λ y. let q = eqb-true n i y in rw (le-ltb i n (omega arith)))
       ∙ last n i t)))
     where
-      last : (n i t : ℕ) → cond (eqb n i) (pointAt hi near high n t) (ltb i n && pointAt hi near high i t) ≡ (ltb i (suc n) && pointAt hi near high i t)
+      last : (n i t : ℕ) → cond (eqb n i) (pointAt hi near cutHigh n t) (ltb i n && pointAt hi near cutHigh i t) ≡ (ltb i (suc n) && pointAt hi near cutHigh i t)
       last n i t =
           by (eqb n i)
-          (λ y. let q = eqb-true n i y in rw (y, lt-ltb i (suc n) (omega arith)) (ap (λ (x : ℕ). pointAt hi near high x t) q))
+          (λ y. let q = eqb-true n i y in rw (y, lt-ltb i (suc n) (omega arith)) (ap (λ (x : ℕ). pointAt hi near cutHigh x t) q))
           (λ z. rw (z, no-more i n z))

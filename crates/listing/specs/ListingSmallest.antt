@@ -9,6 +9,7 @@ use lib.Dec.{ltb, eqb}
 use lib.ListN.{getD}
 use borrow.Author.Tests.{ltb-true, ltb-false, le-ltb}
 use Rattle.laws.specs.Sums.{by, eqb-sym, sum-ap}
+use Rattle.net.specs.Limits.{lengthBound}
 use Rattle.net.specs.Stage.{Stage}
 use Rattle.net.specs.Formed.{Formed}
 use Rattle.pieces.specs.Legal.{Smallest, listed}
@@ -44,7 +45,7 @@ module _ (s : Stage) (root component : ℕ → ℕ) (limit : ℕ) (lo hi host fi
     (hasUngated : List Bool) (ungated near : List ℕ) (anyMode cutHigh : List Bool)
     (formed : Formed s) (fits : Fits s (clustersOf s lo hi host fixed gates) root component)
     (run : Run (clustersOf s lo hi host fixed gates) limit (downOf cutAny fewest anyOk anyWeight ungatedOk ungatedWeight count lightest hasUngated ungated near) (upOf anyMode cutHigh))
-    (short : (r : ℕ) → r < s .nodes → getD hi r 0 < 65536) where
+    (short : (r : ℕ) → r < s .nodes → getD hi r 0 < lengthBound) where
   -- a root has no jumper
   root-near : (r : ℕ) → r < s .nodes → ltb 0 (getD lo r 0) ≡ false → getD near r 0 ≡ 0
   unfolding clustersOf downOf upOf

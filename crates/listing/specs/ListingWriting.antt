@@ -19,28 +19,28 @@ pub length-entryIf : (t : Bool) (w p : ℕ) → length (entryIf t w p) ≡ entry
 length-entryIf true w p = refl
 length-entryIf false w p = refl
 
-pub length-wireEntries : (w near hi : ℕ) (high : Bool) → length (wireEntries w near hi high) ≡ entryBytes * wireCount near high
-length-wireEntries w near hi high =
-    let a = length-append (entryIf (ltb 0 near) w near) (entryIf high w hi) in
+pub length-wireEntries : (w near hi : ℕ) (cutHigh : Bool) → length (wireEntries w near hi cutHigh) ≡ entryBytes * wireCount near cutHigh
+length-wireEntries w near hi cutHigh =
+    let a = length-append (entryIf (ltb 0 near) w near) (entryIf cutHigh w hi) in
     let b = length-entryIf (ltb 0 near) w near in
-    let c = length-entryIf high w hi in
+    let c = length-entryIf cutHigh w hi in
     omega arith
 
-module _ (hi near : List ℕ) (high : List Bool) where
-  pub length-listOf : (n : ℕ) → length (listOf n hi near high) ≡ entryBytes * countOf n near high
+module _ (hi near : List ℕ) (cutHigh : List Bool) where
+  pub length-listOf : (n : ℕ) → length (listOf n hi near cutHigh) ≡ entryBytes * countOf n near cutHigh
   length-listOf n =
-      length-gather n (λ r. wireEntries r (getD near r 0) (getD hi r 0) (getD high r false))
-      ∙ (sum-ap n (λ r p. length-wireEntries r (getD near r 0) (getD hi r 0) (getD high r false))
-      ∙ sum-mul n entryBytes (λ r. wireCount (getD near r 0) (getD high r false)))
+      length-gather n (λ r. wireEntries r (getD near r 0) (getD hi r 0) (getD cutHigh r false))
+      ∙ (sum-ap n (λ r p. length-wireEntries r (getD near r 0) (getD hi r 0) (getD cutHigh r false))
+      ∙ sum-mul n entryBytes (λ r. wireCount (getD near r 0) (getD cutHigh r false)))
 
   -- one wire more
-  pub listOf-next : (r : ℕ) → listOf (r + 1) hi near high ≡ listOf r hi near high ++ wireEntries r (getD near r 0) (getD hi r 0) (getD high r false)
+  pub listOf-next : (r : ℕ) → listOf (r + 1) hi near cutHigh ≡ listOf r hi near cutHigh ++ wireEntries r (getD near r 0) (getD hi r 0) (getD cutHigh r false)
   unfolding gather
   listOf-next r = rw (add-one r)
 
-  pub countOf-next : (r : ℕ) → countOf (r + 1) near high ≡ countOf r near high + wireCount (getD near r 0) (getD high r false)
-  countOf-next r = sum-next r (λ i. wireCount (getD near i 0) (getD high i false))
+  pub countOf-next : (r : ℕ) → countOf (r + 1) near cutHigh ≡ countOf r near cutHigh + wireCount (getD near r 0) (getD cutHigh r false)
+  countOf-next r = sum-next r (λ i. wireCount (getD near i 0) (getD cutHigh i false))
 
   -- there is room for it
-  pub countOf-room : (r n : ℕ) → r < n → countOf r near high + wireCount (getD near r 0) (getD high r false) ≤ countOf n near high
-  countOf-room r n p = sum-next-≤ r n (λ i. wireCount (getD near i 0) (getD high i false)) p
+  pub countOf-room : (r n : ℕ) → r < n → countOf r near cutHigh + wireCount (getD near r 0) (getD cutHigh r false) ≤ countOf n near cutHigh
+  countOf-room r n p = sum-next-≤ r n (λ i. wireCount (getD near i 0) (getD cutHigh i false)) p
