@@ -179,5 +179,5 @@ fn definitions_are_as_long_as_said() {
         assert_eq!(lines, said, "{}", row[0]);
         total += lines;
     }
-    assert!((700..800).contains(&total), "{total}");
+    assert!((600..700).contains(&total), "{total}");
 }

@@ -18,7 +18,7 @@ use Rattle.net.specs.Calls.{call-right}
 use Rattle.net.specs.Accepted.{NetRight, formed}
 use Rattle.net.specs.First.{unmet-number, unmet-l, unmet-r}
 use Rattle.pieces.specs.Legal.{size}
-use Rattle.pieces.specs.Name.{Inside}
+use Rattle.pieces.specs.Inside.{Inside}
 use Rattle.pieces.specs.JumperList.{entryCount, setOf, listRefusal}
 use Rattle.pieces.specs.Size.{AllFree}
 use Rattle.lists.specs.Entries.{list-set-free, list-set-inside, list-set-size}

@@ -15,21 +15,17 @@ use Rattle.net.specs.declared.Refusal.{Refusal}
 use Rattle.net.specs.Layout.{entryBytes, mostNodes}
 use Rattle.net.specs.Stage.{Stage, stageOf}
 use Rattle.net.specs.Formed.{Formed}
-use Rattle.net.specs.Refusal.{answer, none, refusal, met, nodesOf, wiresOf, obstaclesOf}
+use Rattle.net.specs.Refusal.{answer, none, refusal, met}
 use Rattle.net.specs.Call.{netAt, callRefusal}
 use Rattle.net.specs.First.{unmet-number}
 use Rattle.net.specs.Calls.{call-right}
-use Rattle.pieces.specs.Legal.{size, listed, Smallest, NoneLegal}
-use Rattle.pieces.specs.Name.{Inside}
+use Rattle.pieces.specs.Legal.{listed, Smallest, NoneLegal}
+use Rattle.pieces.specs.Inside.{Inside}
 use Rattle.pieces.specs.Size.{listed-size}
 use Rattle.pieces.specs.LegalByNodes.{free-inside}
 use Rattle.pieces.specs.Outer.{smallest-few}
 use Rattle.antenna.specs.AcceptedCalls.{call-formed}
 use Rattle.repairs.specs.Promise.{Judged, no-legal-set, too-short, done, Repaired}
-
--- the count of a smallest list is the number of its points
-pub smallest-size : {s : Stage} {limit : ℕ} {list : List ℕ} {n : ℕ} → Smallest s limit list n → size s (listed list n) ≡ n
-smallest-size {s} {limit} {list} {n} m = let a = listed-size s list n in let b = m .fewest (listed list n) (m .legal) in omega arith
 
 -- two smallest lists are equally long
 pub same-count : {s : Stage} {limit : ℕ} {l k : List ℕ} {m n : ℕ} → Smallest s limit l m → Smallest s limit k n → m ≡ n

@@ -16,12 +16,13 @@ use Rattle.net.specs.Layout.{entryBytes}
 use Rattle.net.specs.Stage.{Stage}
 use Rattle.net.specs.File.{fileOf, headOf, pairsRight, stretch}
 use Rattle.net.specs.Refusal.{none, refusal, answer, stageRefusal, readRefusal, headRefusal, pairsRefusal, netRefusal, sectionsRefusal, nodeRefusal, wireRefusal, obstacleRefusal, firstOf, sectionOf}
-use Rattle.pieces.specs.Legal.{Smallest, NoneLegal, listed, entryWire, entryPosition, Rises, by-wire, by-position}
+use Rattle.pieces.specs.Legal.{Smallest, NoneLegal, listed, entryWire, entryPosition}
+use Rattle.pieces.specs.Rises.{Rises, by-wire, by-position, after-rises}
 use Rattle.pieces.specs.Size.{listed-size}
 use Rattle.lists.specs.Entries.{listed-yes}
 use Rattle.small_nets.specs.Cases.{Least, A, nodesA, wiresA, nodesJ, wiresJ, nodesC, wiresC, bar}
 use Rattle.small_nets.specs.Shown.{small-nets}
-use Rattle.antenna.specs.Exactly.{smallest-size}
+use Rattle.pieces.specs.SmallestSet.{smallest-size}
 use Rattle.repairs.specs.Promise.{Judged, no-legal-set, too-short, done, Repaired}
 
 -- a smallest list has as many entries as the least number of points
@@ -66,7 +67,7 @@ module _ (list : List ℕ) (small : Smallest A 1 list 2) where
 
   positions : (entryPosition list 0 ≡ 1) × (entryPosition list 1 ≡ 12)
   positions =
-      rises (small .rising 0 (omega arith))
+      rises (after-rises list 0 1 (small .rising 0 (omega arith)))
     where
       both : entryPosition list 0 < entryPosition list 1 → (entryPosition list 0 ≡ 1) × (entryPosition list 1 ≡ 12)
       both less =

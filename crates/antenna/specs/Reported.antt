@@ -1,17 +1,17 @@
 -- What follows from report's promise where it answers done: the records in the lent buffer are those of the pieces, each once, in rising order, and their weights add up
 -- to the weight of all wire that the stage has. The file is bytes, as every slice of bytes is.
 -- Assumes nothing.
-use Prim.Native.Nat.{ℕ, zero, suc, _+_, _*_, _/_, _%_, _^_, _<_}
+use Prim.Native.Nat.{ℕ, zero, _+_, _*_, _/_, _%_, _^_, _<_}
 use mathlib.Core.Path.{_≡_, refl, sym, _∙_, ap, subst}
-use mathlib.Core.Bool.{Bool, true, false, cond}
-use mathlib.Core.Logic.{_↔_, ⊎-elim}
+use mathlib.Core.Bool.{Bool, true, false}
+use mathlib.Core.Logic.{⊎-elim}
 use mathlib.Core.List.{List, _++_}
 use lib.Dec.{ltb, eqb}
 use lib.ListN.{length, getD, drop}
 use native.Mathlib.Omega.{arith}
 use native.Mathlib.Nat.{add-zero}
 use borrow.Author.Tests.{ltb-true, ltb-false}
-use Rattle.laws.specs.Sum.{χ, sum, highest}
+use Rattle.laws.specs.Sum.{χ, sum}
 use Rattle.laws.specs.Sums.{by, sum-ap}
 use Rattle.laws.specs.Bytes.{le16, le32}
 use Rattle.laws.specs.Numbers.{Bytes, le16-bytes16}
@@ -21,20 +21,22 @@ use Rattle.net.specs.Stage.{Stage, stageOf}
 use Rattle.net.specs.Formed.{Formed}
 use Rattle.net.specs.Refusal.{stageRefusal, readRefusal, sectionOf, nodesOf, wiresOf, obstaclesOf}
 use Rattle.net.specs.Call.{netAt}
-use Rattle.net.specs.Accepted.{NetRight, present-positive, present-inside}
+use Rattle.net.specs.Accepted.{present-positive, present-inside}
 use Rattle.net.specs.AcceptedIf.{head-unmet, file-right-of}
 use Rattle.net.specs.First.{unmet-r}
 use Rattle.net.specs.Parts.{bytes-section}
 use Rattle.net.specs.Reading.{section-stretch}
 use Rattle.points.specs.Geometry.{checked-of, length-small}
-use Rattle.pieces.specs.Piece.{Points, Element, node, step, Real, a-node, a-step, Group, Piece, weightOf, Harmful}
-use Rattle.pieces.specs.Name.{Inside, numberOf, positionOf}
+use Rattle.pieces.specs.Piece.{Points, Element, node, step, Group, Piece, weightOf, hasGate, hasSource, isHarmful}
+use Rattle.pieces.specs.Real.{Real, a-step}
+use Rattle.pieces.specs.Inside.{Inside}
+use Rattle.pieces.specs.Name.{nameOf, Name, name, named}
 use Rattle.pieces.specs.JumperList.{setOf}
 use Rattle.pieces.specs.Jumpers.{step-cases, position-low, position-high, position-mid, below-mid}
-use Rattle.pieces.specs.Report.{Name, name, groupOf, Before, pieceNames, hasGate, hasSource, isHarmful, flagsOf, recordOf, reportOf}
-use Rattle.pieces.specs.Reports.{record-length, harmful-bit, bit-harmful}
+use Rattle.pieces.specs.Listed.{Before, listed-element, listed-piece, piece-listed, names-rise, total-weight}
+use Rattle.pieces.specs.Report.{pieceNames, flagsOf, recordOf, reportOf}
+use Rattle.pieces.specs.Reports.{record-length}
 use Rattle.pieces.specs.Named.{named-yes, named-number, named-position}
-use Rattle.pieces.specs.Listed.{listed-element, listed-piece, piece-listed, names-rise, total-weight}
 use Rattle.reports.specs.Promise.{pieceCount, piecesBuffer, reportAnswer, reportBuffer}
 use Rattle.reports.specs.WeightFits.{weight-fits, weight-field}
 use Rattle.antenna.specs.Indexed.{mem-at, at-mem, sorted-at, total-at, record-at}
@@ -52,7 +54,7 @@ recordHarmful buffer e = eqb (getD buffer (recordBytes * e + 7) 0 / 4 % 2) 1
 
 -- the elements of the piece that record e names
 abbrev pub recordPiece : Stage → Points → List ℕ → ℕ → Group
-recordPiece s J buffer e = groupOf s J (recordName buffer e)
+recordPiece s J buffer e = named s J (recordName buffer e)
 
 pub record Reported (s : Stage) (limit : ℕ) (J : Points) (buffer : List ℕ) (count : ℕ) : Type 0 where
   pub of-piece : (e : ℕ) → e < count → Piece s J (recordPiece s J buffer e)
@@ -60,11 +62,11 @@ pub record Reported (s : Stage) (limit : ℕ) (J : Points) (buffer : List ℕ) (
   pub once : (d e : ℕ) → d < count → e < count → ((x : Element) → recordPiece s J buffer d x ≡ recordPiece s J buffer e x) → d ≡ e
   pub rising : (d e : ℕ) → d < e → e < count → Before (recordName buffer d) (recordName buffer e)
   pub weight : (e : ℕ) → e < count → recordWeight buffer e ≡ weightOf s (recordPiece s J buffer e)
-  pub harmful : (e : ℕ) → e < count → (recordHarmful buffer e ≡ true) ↔ Harmful s limit (recordPiece s J buffer e)
+  pub harmful : (e : ℕ) → e < count → recordHarmful buffer e ≡ isHarmful s limit (recordPiece s J buffer e)
   pub adds-up : sum count (λ e. recordWeight buffer e) ≡ sum (s .nodes) (λ i. χ (s .present i) (s .len i * s .factor i))
 
 -- positions of names are below 2 ^ 16 where lengths of wires are
-position-fits : (s : Stage) (J : Points) → Inside s J → ((i : ℕ) → s .present i ≡ true → s .len i < 65536) → (e : Element) → Real s e → positionOf s J e < 65536
+position-fits : (s : Stage) (J : Points) → Inside s J → ((i : ℕ) → s .present i ≡ true → s .len i < 65536) → (e : Element) → Real s e → nameOf s J e .position < 65536
 position-fits s J inside short (node i) r = omega arith
 position-fits s J inside short (step i t) (a-step present p l) =
     step-cases s J inside i t
@@ -119,27 +121,27 @@ module _ (s : Stage) (limit : ℕ) (J : Points) (formed : Formed s) (inside : In
       (rw (add-zero (recordBytes * e)) at (field-at e 0 p (omega arith)))
       (rw (two, field-at e 1 p (omega arith), field-at e 2 p (omega arith)) (le16-bytes16 (nameAt e .position) small))
 
-  weight-at : (e : ℕ) → e < count → recordWeight buffer e ≡ weightOf s (groupOf s J (nameAt e))
+  weight-at : (e : ℕ) → e < count → recordWeight buffer e ≡ weightOf s (named s J (nameAt e))
   weight-at e p =
       let four : recordBytes * e + 3 + 1 ≡ recordBytes * e + 4 = omega arith in
       let five : recordBytes * e + 3 + 2 ≡ recordBytes * e + 5 = omega arith in
       let six : recordBytes * e + 3 + 3 ≡ recordBytes * e + 6 = omega arith in
       rw (four, five, six, field-at e 3 p (omega arith), field-at e 4 p (omega arith), field-at e 5 p (omega arith), field-at e 6 p (omega arith))
-      (weight-field s limit J (nameAt e) (light (groupOf s J (nameAt e))))
+      (weight-field s limit J (nameAt e) (light (named s J (nameAt e))))
 
-  harmful-at : (e : ℕ) → e < count → recordHarmful buffer e ≡ isHarmful s limit (groupOf s J (nameAt e))
+  harmful-at : (e : ℕ) → e < count → recordHarmful buffer e ≡ isHarmful s limit (named s J (nameAt e))
   unfolding recordOf flagsOf
   harmful-at e p =
-      let P = groupOf s J (nameAt e) in
+      let P = named s J (nameAt e) in
       rw (field-at e 7 p (omega arith)) (bit-2 (hasGate s P) (hasSource s P) (isHarmful s limit P))
 
   -- a record with the elements of another is that record
-  once-at : (d e : ℕ) → d < count → e < count → ((x : Element) → groupOf s J (nameAt d) x ≡ groupOf s J (nameAt e) x) → d ≡ e
+  once-at : (d e : ℕ) → d < count → e < count → ((x : Element) → named s J (nameAt d) x ≡ named s J (nameAt e) x) → d ≡ e
   once-at d e p q same =
       let r = listed-element s J formed inside (nameAt d) (mem-at none-name (pieceNames s J) d p) in
       let x = r .0 in
-      let here : groupOf s J (nameAt d) x ≡ true = subst (λ (n : Name). groupOf s J n x ≡ true) (r .2) (named-yes s J x (r .1) refl refl) in
-      let there : groupOf s J (nameAt e) x ≡ true = sym (same x) ∙ here in
+      let here : named s J (nameAt d) x ≡ true = subst (λ (n : Name). named s J n x ≡ true) (r .2) (named-yes s J x (r .1) refl refl) in
+      let there : named s J (nameAt e) x ≡ true = sym (same x) ∙ here in
       let number = sym (named-number s J (nameAt d .number) (nameAt d .position) x here) ∙ named-number s J (nameAt e .number) (nameAt e .position) x there in
       let position = sym (named-position s J (nameAt d .number) (nameAt d .position) x here) ∙ named-position s J (nameAt e .number) (nameAt e .position) x there in
       apart number position
@@ -161,28 +163,22 @@ module _ (s : Stage) (limit : ℕ) (J : Points) (formed : Formed s) (inside : In
   records =
       record {
         of-piece = λ e p.
-            subst (λ (n : Name). Piece s J (groupOf s J n)) (sym (name-at e p)) (listed-piece s J formed inside (nameAt e) (mem-at none-name (pieceNames s J) e p));
+            subst (λ (n : Name). Piece s J (named s J n)) (sym (name-at e p)) (listed-piece s J formed inside (nameAt e) (mem-at none-name (pieceNames s J) e p));
         every-piece = λ P piece.
             let r = piece-listed s J formed inside P piece in
             let k = at-mem none-name (pieceNames s J) (r .1) in
-            (k .0, k .1, λ x. r .2 x ∙ ap (λ (n : Name). groupOf s J n x) (sym (name-at (k .0) (k .1) ∙ k .2)));
+            (k .0, k .1, λ x. r .2 x ∙ ap (λ (n : Name). named s J n x) (sym (name-at (k .0) (k .1) ∙ k .2)));
         once = λ d e p q same.
             once-at d e p q
-            (λ x. ap (λ (n : Name). groupOf s J n x) (sym (name-at d p)) ∙ (same x ∙ ap (λ (n : Name). groupOf s J n x) (name-at e q)));
+            (λ x. ap (λ (n : Name). named s J n x) (sym (name-at d p)) ∙ (same x ∙ ap (λ (n : Name). named s J n x) (name-at e q)));
         rising = λ d e p q.
             let l : d < count = omega arith in
             subst (λ (m : Name). Before m (recordName buffer e)) (sym (name-at d l))
             (subst (λ (n : Name). Before (nameAt d) n) (sym (name-at e q)) (sorted-at none-name (pieceNames s J) (names-rise s J formed inside) d e p q));
-        weight = λ e p. weight-at e p ∙ ap (λ (n : Name). weightOf s (groupOf s J n)) (sym (name-at e p));
-        harmful = λ e p. (
-          λ h. harmful-bit s (recordPiece s J buffer e) limit (sym (same-harm e p) ∙ h),
-          λ h. same-harm e p ∙ bit-harmful s (recordPiece s J buffer e) limit h,
-        );
-        adds-up = sum-ap count (λ e p. weight-at e p) ∙ (sym (total-at none-name (λ n. weightOf s (groupOf s J n)) (pieceNames s J)) ∙ total-weight s J formed inside);
+        weight = λ e p. weight-at e p ∙ ap (λ (n : Name). weightOf s (named s J n)) (sym (name-at e p));
+        harmful = λ e p. harmful-at e p ∙ ap (λ (n : Name). isHarmful s limit (named s J n)) (sym (name-at e p));
+        adds-up = sum-ap count (λ e p. weight-at e p) ∙ (sym (total-at none-name (λ n. weightOf s (named s J n)) (pieceNames s J)) ∙ total-weight s J formed inside);
       }
-    where
-      same-harm : (e : ℕ) → e < count → recordHarmful buffer e ≡ isHarmful s limit (recordPiece s J buffer e)
-      same-harm e p = harmful-at e p ∙ ap (λ (n : Name). isHarmful s limit (groupOf s J n)) (sym (name-at e p))
 
 -- report answers done
 module _ (stage limit : ℕ) (file list out after : List ℕ) (r : Answer) (bytes : Bytes file) (e : r ≡ reportAnswer stage file list (length out))

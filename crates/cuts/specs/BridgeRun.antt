@@ -14,7 +14,8 @@ use Rattle.net.specs.Layout.{entryBytes}
 use Rattle.net.specs.Stage.{Stage}
 use Rattle.net.specs.Formed.{Formed}
 use Rattle.pieces.specs.Piece.{Points}
-use Rattle.pieces.specs.Legal.{Legal, NoneLegal, Smallest, Rises, size, listed}
+use Rattle.pieces.specs.Legal.{Legal, NoneLegal, Smallest, size, listed}
+use Rattle.pieces.specs.Rises.{Rises, rises-after}
 use Rattle.cuts.specs.Cluster.{Clusters, Sound, Parts, Good}
 use Rattle.cuts.specs.Passes.{Down, Up, Run, stops, chosenEffect, totalFewest}
 use Rattle.cuts.specs.Fits.{Fits, sourced, liveGate, pointsOf}
@@ -132,7 +133,7 @@ module _ (s : Stage) (c : Clusters) (root component : ℕ → ℕ) (formed : For
     smallest-of-run list n whole rising same count =
         record {
           whole = whole;
-          rising = rising;
+          rising = λ e p. rises-after (rising e p);
           legal = legal-same s limit (listed list n) (pointsOf c (chosenEffect c d u)) same chosen-legal;
           fewest = λ J legal. let a = chosen-fewest J legal in omega arith;
         }

@@ -7,7 +7,6 @@ pub mod ChosenGood
 pub mod ChosenCount
 pub mod ChosenSources
 pub mod Bounds
-pub mod Example
 pub mod LowerLargest
 pub mod LowerLightest
 pub mod BridgeFits

@@ -16,7 +16,8 @@ use Rattle.laws.specs.Sums.{last-or-below, any-ap}
 use Rattle.laws.specs.Numbers.{le16-bytes16}
 use Rattle.net.specs.Limits.{lengthBound}
 use Rattle.net.specs.Layout.{entryBytes}
-use Rattle.pieces.specs.Legal.{entryWire, entryPosition, listed, Rises, by-wire, by-position}
+use Rattle.pieces.specs.Legal.{entryWire, entryPosition, listed}
+use Rattle.pieces.specs.Rises.{Rises, by-wire, by-position}
 use Rattle.listing.specs.Listing.{entry, entryIf}
 
 -- m entries that rise, all before position p of wire w

@@ -17,10 +17,11 @@ use Rattle.net.specs.Formed.{Formed}
 use Rattle.net.specs.Refusal.{none, met, refusedIf, firstOf}
 use Rattle.net.specs.First.{unmet-if, unmet-l, unmet-r, first-unmet}
 use Rattle.pieces.specs.Piece.{Points}
-use Rattle.pieces.specs.Name.{Inside}
-use Rattle.pieces.specs.Legal.{Free, size, entryWire, entryPosition, listed, Rises, by-wire, by-position}
+use Rattle.pieces.specs.Inside.{Inside}
+use Rattle.pieces.specs.Legal.{Free, size, entryWire, entryPosition, listed, after}
+use Rattle.pieces.specs.Rises.{Rises, by-wire, by-position, after-rises}
 use Rattle.pieces.specs.Size.{AllFree, single, without, one-less, listed-size}
-use Rattle.pieces.specs.JumperList.{entryCount, after, pointRefusal, entryRefusal, listRefusal, setOf}
+use Rattle.pieces.specs.JumperList.{entryCount, pointRefusal, entryRefusal, listRefusal, setOf}
 
 -- each of n entries may be cut
 abbrev pub EntriesFree : Stage → List ℕ → ℕ → Type 0
@@ -31,16 +32,6 @@ abbrev pub Rising : List ℕ → ℕ → Type 0
 Rising list n = (e : ℕ) → suc e < n → Rises list e (suc e)
 
 -- ---- an accepted list
-pub after-rises : (list : List ℕ) (d e : ℕ) → after list d e ≡ true → Rises list d e
-unfolding after
-after-rises list d e h =
-    ⊎-elim (λ a. by-wire (ltb-true (entryWire list d) (entryWire list e) a))
-    (λ b.
-    let w = eqb (entryWire list d) (entryWire list e) in
-    let p = ltb (entryPosition list d) (entryPosition list e) in
-    by-position (eqb-true _ _ (and-left w p b)) (ltb-true _ _ (and-right w p b)))
-    (or-cases (ltb (entryWire list d) (entryWire list e)) (eqb (entryWire list d) (entryWire list e) && ltb (entryPosition list d) (entryPosition list e)) h)
-
 -- a point that meets neither 13 nor 14 may be cut
 pub point-free : (s : Stage) (i t place : ℕ) → met (pointRefusal s i t place) ≡ false → Free s i t
 unfolding pointRefusal

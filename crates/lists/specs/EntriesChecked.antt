@@ -18,8 +18,8 @@ use Rattle.net.specs.First.{none-if, none-or, first-none, first-unmet, unmet-nu
 use Rattle.points.specs.Cuttable.{Checked}
 use Rattle.net.specs.Accepted.{net-right}
 use Rattle.points.specs.Geometry.{checked-of}
-use Rattle.pieces.specs.Legal.{entryWire, entryPosition}
-use Rattle.pieces.specs.JumperList.{entryCount, after, pointRefusal, entryRefusal, listRefusal}
+use Rattle.pieces.specs.Legal.{entryWire, entryPosition, after}
+use Rattle.pieces.specs.JumperList.{entryCount, pointRefusal, entryRefusal, listRefusal}
 
 -- each wire of the net is checked
 abbrev pub WiresChecked : List ℕ → List ℕ → Type 0

@@ -8,7 +8,8 @@ use Rattle.net.specs.declared.Refusal.{Refusal}
 use Rattle.net.specs.Net.{wireLength, pointX, pointY, holds, barred}
 use Rattle.net.specs.Stage.{stageOf}
 use Rattle.net.specs.Refusal.{none, refusal, firstOf}
-use Rattle.pieces.specs.JumperList.{after, pointRefusal, entryRefusal, listRefusal}
+use Rattle.pieces.specs.Legal.{after}
+use Rattle.pieces.specs.JumperList.{pointRefusal, entryRefusal, listRefusal}
 
 -- the refusal of a list at a stage; the net has one wire of 13 steps, from (13,0) to (0,0), on layer 2, and an obstacle at (7,0), which is position 6
 abbrev pub refused : ℕ → List ℕ → Refusal

@@ -16,7 +16,8 @@ ghost use Prim.Native.Nat.{_-_, _<_};
 ghost use lib.Dec.{eqb};
 ghost use Rattle.net.specs.Refusal.{none, netRefusal};
 ghost use Rattle.net.specs.Stage.{stageOf};
-ghost use Rattle.pieces.specs.JumperList.{entryCount, after, pointRefusal, entryRefusal, listRefusal};
+ghost use Rattle.pieces.specs.Legal.{after};
+ghost use Rattle.pieces.specs.JumperList.{entryCount, pointRefusal, entryRefusal, listRefusal};
 ghost use Rattle.lists.specs.EntriesChecked.{WiresChecked, liesInside};
 
 // Entry e stands after the one before, if there is one.

@@ -1,7 +1,7 @@
 -- Document 01, "Where each refusal is met": 12 to 14, on a jumper list at a stage.
 -- Assumes nothing.
 use Prim.Native.Nat.{ℕ, _-_, _/_, _%_}
-use mathlib.Core.Bool.{Bool, not, _&&_, _||_}
+use mathlib.Core.Bool.{not, _&&_, _||_}
 use mathlib.Core.List.{List}
 use lib.ListN.{length}
 use lib.Dec.{leb, ltb, eqb}
@@ -10,7 +10,7 @@ use Rattle.net.specs.Layout.{entryBytes}
 use Rattle.net.specs.Stage.{Stage}
 use Rattle.net.specs.Refusal.{refusedIf, orElse, firstOf}
 use Rattle.pieces.specs.Piece.{Points}
-use Rattle.pieces.specs.Legal.{entryWire, entryPosition, listed}
+use Rattle.pieces.specs.Legal.{entryWire, entryPosition, listed, after}
 
 -- the number of entries
 abbrev pub entryCount : List ℕ → ℕ
@@ -19,12 +19,6 @@ entryCount list = length list / entryBytes
 -- the set of a whole list
 abbrev pub setOf : List ℕ → Points
 setOf list = listed list (entryCount list)
-
--- entry e stands after entry d: by wire, then position
-unfoldable pub after : List ℕ → ℕ → ℕ → Bool
-after list d e =
-    ltb (entryWire list d) (entryWire list e)
-    || (eqb (entryWire list d) (entryWire list e) && ltb (entryPosition list d) (entryPosition list e))
 
 -- position t of wire i: 13 no such wire, absent wire, or position outside; 14 barred
 unfoldable pub pointRefusal : Stage → ℕ → ℕ → ℕ → Refusal

@@ -10,7 +10,8 @@ use Rattle.laws.specs.Sum.{highest}
 use Rattle.laws.specs.Sums.{by, no-both, not-true-false, any-yes, lowest-passes, lowest-least, lowest-none, lowest-≤, highest-passes, highest-most, highest-none}
 use Rattle.net.specs.Stage.{Stage}
 use Rattle.pieces.specs.Piece.{Points}
-use Rattle.pieces.specs.Name.{Inside, cutAt, firstJumper, lastJumper, lowestNode, stepNumber, stepPosition}
+use Rattle.pieces.specs.Inside.{Inside}
+use Rattle.pieces.specs.Name.{cutAt, firstJumper, lastJumper, lowestNode, stepName}
 
 module _ (s : Stage) (J : Points) (inside : Inside s J) where
   pub jumper-cuts : (i t : ℕ) → J i t ≡ true → cutAt s J i ≡ true
@@ -87,28 +88,28 @@ module _ (s : Stage) (J : Points) (inside : Inside s J) where
       (λ d. mid (leb-false t (firstJumper s J i) b) (ltb-false (lastJumper s J i) t d)))
 
   -- the name of a step in each case
-  pub number-low : (i t : ℕ) → t ≤ firstJumper s J i → stepNumber s J i t ≡ lowestNode s J i
-  unfolding stepNumber
+  pub number-low : (i t : ℕ) → t ≤ firstJumper s J i → stepName s J i t .number ≡ lowestNode s J i
+  unfolding stepName
   number-low i t p = rw (le-leb t (firstJumper s J i) p)
 
-  pub position-low : (i t : ℕ) → t ≤ firstJumper s J i → stepPosition s J i t ≡ 0
-  unfolding stepPosition
+  pub position-low : (i t : ℕ) → t ≤ firstJumper s J i → stepName s J i t .position ≡ 0
+  unfolding stepName
   position-low i t p = rw (le-leb t (firstJumper s J i) p)
 
-  pub number-high : (i t : ℕ) → firstJumper s J i < t → lastJumper s J i < t → stepNumber s J i t ≡ lowestNode s J (s .parent i)
-  unfolding stepNumber
+  pub number-high : (i t : ℕ) → firstJumper s J i < t → lastJumper s J i < t → stepName s J i t .number ≡ lowestNode s J (s .parent i)
+  unfolding stepName
   number-high i t p q = rw (lt-leb t (firstJumper s J i) p, lt-ltb (lastJumper s J i) t q)
 
-  pub position-high : (i t : ℕ) → firstJumper s J i < t → lastJumper s J i < t → stepPosition s J i t ≡ 0
-  unfolding stepPosition
+  pub position-high : (i t : ℕ) → firstJumper s J i < t → lastJumper s J i < t → stepName s J i t .position ≡ 0
+  unfolding stepName
   position-high i t p q = rw (lt-leb t (firstJumper s J i) p, lt-ltb (lastJumper s J i) t q)
 
-  pub number-mid : (i t : ℕ) → firstJumper s J i < t → t ≤ lastJumper s J i → stepNumber s J i t ≡ i
-  unfolding stepNumber
+  pub number-mid : (i t : ℕ) → firstJumper s J i < t → t ≤ lastJumper s J i → stepName s J i t .number ≡ i
+  unfolding stepName
   number-mid i t p q = rw (lt-leb t (firstJumper s J i) p, le-ltb (lastJumper s J i) t q)
 
-  pub position-mid : (i t : ℕ) → firstJumper s J i < t → t ≤ lastJumper s J i → stepPosition s J i t ≡ highest t (λ p. J i p)
-  unfolding stepPosition
+  pub position-mid : (i t : ℕ) → firstJumper s J i < t → t ≤ lastJumper s J i → stepName s J i t .position ≡ highest t (λ p. J i p)
+  unfolding stepName
   position-mid i t p q = rw (lt-leb t (firstJumper s J i) p, le-ltb (lastJumper s J i) t q)
 
   -- the highest jumper below a step that has one

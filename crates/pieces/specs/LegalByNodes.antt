@@ -6,12 +6,15 @@ use mathlib.Core.Bool.{true}
 use native.Mathlib.Omega.{arith}
 use lib.Dec.{ltb}
 use borrow.Author.Tests.{ltb-true, ltb-false}
-use Rattle.laws.specs.Sums.{by}
+use Rattle.laws.specs.Sums.{by, no-both, not-true-false}
 use Rattle.net.specs.Stage.{Stage}
 use Rattle.net.specs.Formed.{Formed}
-use Rattle.pieces.specs.Piece.{Points, node, a-node, Group, Piece, Harmful}
+use Rattle.pieces.specs.Piece.{Points, node, Group, Piece, isHarmful}
+use Rattle.pieces.specs.Real.{a-node}
+use Rattle.pieces.specs.Harmful.{Harmful, harmful-bit, bit-harmful}
 use Rattle.pieces.specs.Legal.{Free, Legal}
-use Rattle.pieces.specs.Name.{Inside, lowestNode, named}
+use Rattle.pieces.specs.Inside.{Inside}
+use Rattle.pieces.specs.Name.{lowestNode, named, name}
 use Rattle.pieces.specs.Weight.{nodeWeight}
 use Rattle.pieces.specs.Lowest.{lowestNode-inside, lowestNode-again}
 use Rattle.pieces.specs.Named.{named-yes, named-number, named-piece, piece-named}
@@ -30,20 +33,20 @@ module _ (s : Stage) (formed : Formed s) (limit : ℕ) (J : Points) where
   pub legal→nodes : Legal s limit J → LightNodes s limit J
   legal→nodes legal h p e i q g low none =
       by (ltb limit (nodeWeight s J h))
-      (λ y. absurd (legal .harmless P piece (record { gated = record { at = i; inside = q; is-gate = g; in-it = named-yes s J (node i) (a-node q) low refl }; sourceless = λ k r src has. none k r src (named-number s J h 0 (node k) has); heavy = rw (class-weight s J within h) (ltb-true limit (nodeWeight s J h) y) })))
+      (λ y. absurd (no-both (bit-harmful s P limit (record { gated = record { at = i; inside = q; is-gate = g; in-it = named-yes s J (node i) (a-node q) low refl }; sourceless = λ k r src has. none k r src (named-number s J h 0 (node k) has); heavy = rw (class-weight s J within h) (ltb-true limit (nodeWeight s J h) y) })) (legal .harmless P piece)))
       (λ z. ltb-false limit (nodeWeight s J h) z)
     where
       within : Inside s J
       within = free-inside s J (legal .free)
 
       P : Group
-      P = named s J h 0
+      P = named s J (name h 0)
 
       piece : Piece s J P
       piece = rw e at (named-piece s J formed within (node h) (a-node p))
 
   pub nodes→legal : ((i t : ℕ) → J i t ≡ true → Free s i t) → LightNodes s limit J → Legal s limit J
-  nodes→legal free light = record { free = free; harmless = harmless }
+  nodes→legal free light = record { free = free; harmless = λ P piece. not-true-false (isHarmful s limit P) (λ h. harmless P piece (harmful-bit s P limit h)) }
     where
       within : Inside s J
       within = free-inside s J free
@@ -53,7 +56,7 @@ module _ (s : Stage) (formed : Formed s) (limit : ℕ) (J : Points) where
           let g = bad .gated in
           let h = lowestNode s J (g .at) in
           let same = piece-named s J formed within P piece (node (g .at)) (g .in-it) in
-          let weighs = weight-same s P (named s J h 0) same ∙ class-weight s J within h in
+          let weighs = weight-same s P (named s J (name h 0)) same ∙ class-weight s J within h in
           let most =
           light h (lowestNode-inside s J formed (g .at) (g .inside)) (lowestNode-again s J formed (g .at)) (g .at) (g .inside) (g .is-gate) refl
           (λ k r src low. bad .sourceless k r src (same (node k) ∙ named-yes s J (node k) (a-node r) low refl)) in

@@ -2,6 +2,10 @@ pub mod Piece
 pub mod Legal
 pub mod Name
 pub mod JumperList
+pub mod Real
+pub mod Harmful
+pub mod Rises
+pub mod Inside
 pub mod Lowest
 pub mod Jumpers
 pub mod Names
@@ -9,9 +13,12 @@ pub mod Named
 pub mod Weights
 pub mod LegalByNodes
 pub mod Report
+pub mod NamedPieces
 pub mod Listed
 pub mod Reports
 pub mod Weight
 pub mod Size
+pub mod SmallestSet
 pub mod Outer
+pub mod Sources
 pub mod Limits

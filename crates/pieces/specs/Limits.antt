@@ -4,8 +4,10 @@ use Prim.Native.Nat.{ℕ, _≤_}
 use mathlib.Core.List.{List}
 use native.Mathlib.Nat.{le-trans}
 use native.Mathlib.Omega.{arith}
+use Rattle.laws.specs.Sums.{no-both, not-true-false}
 use Rattle.net.specs.Stage.{Stage}
-use Rattle.pieces.specs.Piece.{Points}
+use Rattle.pieces.specs.Piece.{Points, isHarmful}
+use Rattle.pieces.specs.Harmful.{harmful-bit, bit-harmful}
 use Rattle.pieces.specs.Legal.{Legal, Smallest, listed}
 use Rattle.pieces.specs.Size.{listed-size}
 
@@ -13,8 +15,11 @@ pub legal-higher : (s : Stage) (limit higher : ℕ) (J : Points) → limit ≤ h
 legal-higher s limit higher J le legal =
     record {
       free = legal .free;
-      harmless = λ P piece bad.
-          legal .harmless P piece (record { gated = bad .gated; sourceless = bad .sourceless; heavy = omega (arith, le, bad .heavy) });
+      harmless = λ P piece.
+          not-true-false (isHarmful s higher P)
+          (λ h.
+          let bad = harmful-bit s P higher h in
+          no-both (bit-harmful s P limit (record { gated = bad .gated; sourceless = bad .sourceless; heavy = omega (arith, le, bad .heavy) })) (legal .harmless P piece));
     }
 
 pub fewest-higher :

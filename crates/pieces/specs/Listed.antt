@@ -3,7 +3,7 @@
 use Prim.Native.Nat.{ℕ, suc, _+_, _*_, _≤_, _<_}
 use mathlib.Core.Path.{_≡_, refl, sym, _∙_, ap, subst}
 use mathlib.Core.Bool.{true, false, _&&_}
-use mathlib.Core.Logic.{inl, inr, ⊎-elim}
+use mathlib.Core.Logic.{_⊎_, inl, inr, ⊎-elim}
 use mathlib.Core.List.{List, [], _∷_, _++_, List·Memᴰ, List·Memᴰ·not-nil, List·Memᴰ·append-cases, List·Memᴰ·cases-cons, Memᴰ·append-left, Memᴰ·append-right}
 use native.Mathlib.Omega.{arith}
 use lib.Dec.{ltb, eqb}
@@ -15,13 +15,19 @@ use Rattle.laws.specs.Gather.{only}
 use Rattle.laws.specs.Gathers.{total, Sorted, empty, front, length-only, mem-only, only-mem, length-gather, mem-gather, gather-mem, sorted-only, sorted-append, sorted-gather, total-ap, total-zero, total-χ, total-sum}
 use Rattle.net.specs.Stage.{Stage}
 use Rattle.net.specs.Formed.{Formed}
-use Rattle.pieces.specs.Piece.{Points, Element, node, step, Real, a-node, a-step, Group, Piece, weightOf}
+use Rattle.pieces.specs.Piece.{Points, Element, node, step, Group, Piece, weightOf}
+use Rattle.pieces.specs.Real.{Real, a-node, a-step, real-is, is-real}
 use Rattle.pieces.specs.Legal.{size}
-use Rattle.pieces.specs.Name.{Inside, cutAt, firstJumper, lastJumper, joins, lowestNode, numberOf, positionOf, named}
+use Rattle.pieces.specs.Inside.{Inside}
+use Rattle.pieces.specs.Name.{cutAt, firstJumper, lastJumper, joins, lowestNode, nameOf, named, Name, name}
 use Rattle.pieces.specs.Lowest.{joins-yes, joins-below, cut-apart, absent-apart, lowestNode-up, lowestNode-stop, lowestNode-≤, lowestNode-inside, lowestNode-again}
 use Rattle.pieces.specs.Jumpers.{jumper-cuts, uncut-none, first-last, first-least, last-jumper, last-most, step-cases, number-low, number-high, number-mid, position-low, position-high, position-mid, below-mid}
-use Rattle.pieces.specs.Named.{real-is, named-piece, piece-named}
-use Rattle.pieces.specs.Report.{Name, name, groupOf, Before, nodeNames, stretchNames, pieceNames}
+use Rattle.pieces.specs.Named.{named-piece, piece-named}
+use Rattle.pieces.specs.Report.{nodeNames, stretchNames, pieceNames}
+
+-- names rise by number, then position
+abbrev pub Before : Name → Name → Type 0
+Before m n = (m .number < n .number) ⊎ ((m .number ≡ n .number) × (m .position < n .position))
 
 -- a name that stands before another differs from it
 differ : (m n : Name) → Before m n → (eqb (m .number) (n .number) && eqb (m .position) (n .position)) ≡ false
@@ -98,7 +104,7 @@ module _ (s : Stage) (J : Points) (formed : Formed s) (inside : Inside s J) wher
   lowest-listed i p = node-listed s J (lowestNode s J i) (lowestNode-inside s J formed i p) (lowestNode-again s J formed i)
 
   -- the name of every element is in the list
-  pub name-listed : (e : Element) → Real s e → List·Memᴰ (name (numberOf s J e) (positionOf s J e)) (pieceNames s J)
+  pub name-listed : (e : Element) → Real s e → List·Memᴰ (nameOf s J e) (pieceNames s J)
   name-listed (node i) (a-node p) = lowest-listed i p
   name-listed (step i t) (a-step present p l) =
       let b = formed .inside i present in
@@ -112,7 +118,7 @@ module _ (s : Stage) (J : Points) (formed : Formed s) (inside : Inside s J) wher
       (stretch-listed s J i (highest t (λ x. J i x)) b present (inside i (highest t (λ x. J i x)) (q .1) .1) (q .1) (omega (arith, q .0))))
 
   -- every name in the list is the name of an element
-  pub listed-element : (n : Name) → List·Memᴰ n (pieceNames s J) → (e : Element) × Real s e × (name (numberOf s J e) (positionOf s J e) ≡ n)
+  pub listed-element : (n : Name) → List·Memᴰ n (pieceNames s J) → (e : Element) × Real s e × (nameOf s J e ≡ n)
   unfolding pieceNames
   listed-element n m =
       let r = gather-mem (s .nodes) (λ i. nodeNames s J i ++ stretchNames s J i) m in
@@ -133,16 +139,16 @@ module _ (s : Stage) (J : Points) (formed : Formed s) (inside : Inside s J) wher
       ))
       (List·Memᴰ·append-cases (nodeNames s J i) (r .2))
 
-  pub listed-piece : (n : Name) → List·Memᴰ n (pieceNames s J) → Piece s J (groupOf s J n)
+  pub listed-piece : (n : Name) → List·Memᴰ n (pieceNames s J) → Piece s J (named s J n)
   listed-piece n m =
       let r = listed-element n m in
-      subst (λ (x : Name). Piece s J (groupOf s J x)) (r .2) (named-piece s J formed inside (r .0) (r .1))
+      subst (λ (x : Name). Piece s J (named s J x)) (r .2) (named-piece s J formed inside (r .0) (r .1))
 
   -- every piece is the elements of a name in the list
-  pub piece-listed : (P : Group) → Piece s J P → (n : Name) × List·Memᴰ n (pieceNames s J) × ((e : Element) → P e ≡ groupOf s J n e)
+  pub piece-listed : (P : Group) → Piece s J P → (n : Name) × List·Memᴰ n (pieceNames s J) × ((e : Element) → P e ≡ named s J n e)
   piece-listed P piece =
       let d = piece .one in
-      (name (numberOf s J d) (positionOf s J d), name-listed d (piece .real d (piece .has-one)), piece-named s J formed inside P piece d (piece .has-one))
+      (nameOf s J d, name-listed d (is-real s d (piece .real d (piece .has-one))), piece-named s J formed inside P piece d (piece .has-one))
 
   wire-rise : (i : ℕ) → Sorted Before (nodeNames s J i ++ stretchNames s J i)
   unfolding nodeNames stretchNames
@@ -247,11 +253,11 @@ module _ (s : Stage) (J : Points) (formed : Formed s) (inside : Inside s J) wher
       omega arith)
 
   -- each element is in one named piece of the list
-  in-one : (e : Element) → Real s e → (x : ℕ) → total (λ n. χ (groupOf s J n e) x) (pieceNames s J) ≡ x
+  in-one : (e : Element) → Real s e → (x : ℕ) → total (λ n. χ (named s J n e) x) (pieceNames s J) ≡ x
   unfolding named
   in-one e r x =
       total-ap (λ n. rw (real-is s r)) (pieceNames s J)
-      ∙ once (numberOf s J e) (positionOf s J e) x (pieceNames s J) names-rise (name-listed e r)
+      ∙ once (nameOf s J e .number) (nameOf s J e .position) x (pieceNames s J) names-rise (name-listed e r)
 
   -- document 01: number of pieces = nodes − present wires + jumpers
   pub number-of-names : ((i t : ℕ) → J i t ≡ true → s .present i ≡ true) →
@@ -270,12 +276,12 @@ module _ (s : Stage) (J : Points) (formed : Formed s) (inside : Inside s J) wher
       omega arith
 
   -- document 01: the weights of all pieces are those of the present wires
-  pub total-weight : total (λ n. weightOf s (groupOf s J n)) (pieceNames s J) ≡ sum (s .nodes) (λ i. χ (s .present i) (s .len i * s .factor i))
+  pub total-weight : total (λ n. weightOf s (named s J n)) (pieceNames s J) ≡ sum (s .nodes) (λ i. χ (s .present i) (s .len i * s .factor i))
   unfolding weightOf
   total-weight =
-      total-sum (s .nodes) (λ n i. χ (s .present i) (sum (s .len i) (λ t. χ (groupOf s J n (step i (suc t))) (s .factor i)))) (pieceNames s J)
+      total-sum (s .nodes) (λ n i. χ (s .present i) (sum (s .len i) (λ t. χ (named s J n (step i (suc t))) (s .factor i)))) (pieceNames s J)
       ∙ sum-ap (s .nodes) (λ i p.
-      total-χ (s .present i) (λ n. sum (s .len i) (λ t. χ (groupOf s J n (step i (suc t))) (s .factor i))) (pieceNames s J)
+      total-χ (s .present i) (λ n. sum (s .len i) (λ t. χ (named s J n (step i (suc t))) (s .factor i))) (pieceNames s J)
       ∙ χ-ap (s .present i) (λ present.
-      total-sum (s .len i) (λ n t. χ (groupOf s J n (step i (suc t))) (s .factor i)) (pieceNames s J)
+      total-sum (s .len i) (λ n t. χ (named s J n (step i (suc t))) (s .factor i)) (pieceNames s J)
       ∙ (sum-ap (s .len i) (λ t l. in-one (step i (suc t)) (a-step {t = suc t} present (omega arith) l) (s .factor i)) ∙ sum-const (s .len i) (s .factor i))))

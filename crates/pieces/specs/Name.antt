@@ -1,17 +1,20 @@
 -- Document 01, "Files": how pieces are named. A piece with nodes is named by its lowest node and position 0, another by its wire and the lower of its two
 -- jumper positions. That two elements have one name exactly when they are connected is a theorem.
 -- Assumes nothing.
-use Prim.Native.Nat.{ℕ, zero, suc, _≤_, _<_}
-use mathlib.Core.Path.{_≡_}
-use mathlib.Core.Bool.{Bool, true, not, _&&_, cond}
+use Prim.Native.Nat.{ℕ, zero, suc}
+use mathlib.Core.Bool.{Bool, not, _&&_, cond}
 use lib.Dec.{leb, ltb, eqb}
 use Rattle.laws.specs.Sum.{any, lowest, highest}
 use Rattle.net.specs.Stage.{Stage}
-use Rattle.pieces.specs.Piece.{Points, Element, node, step, Group}
+use Rattle.pieces.specs.Piece.{Points, Element, node, step, isReal, Group}
 
--- the jumpers lie inside their wires
-abbrev pub Inside : Stage → Points → Type 0
-Inside s J = (i t : ℕ) → J i t ≡ true → (1 ≤ t) × (t < s .len i)
+-- the name of a piece
+pub record Name : Type 0 where
+  pub number : ℕ
+  pub position : ℕ
+
+abbrev pub name : ℕ → ℕ → Name
+name n p = record { number = n; position = p }
 
 -- a jumper stands on wire i
 unfoldable pub cutAt : Stage → Points → ℕ → Bool
@@ -39,28 +42,16 @@ unfoldable pub lowestNode : Stage → Points → ℕ → ℕ
 lowestNode s J i = follow s J i i
 
 -- the name of step t of wire i goes by the jumpers below and above it
-unfoldable pub stepNumber : Stage → Points → ℕ → ℕ → ℕ
-stepNumber s J i t =
-    cond (leb t (firstJumper s J i)) (lowestNode s J i) (cond (ltb (lastJumper s J i) t) (lowestNode s J (s .parent i)) i)
+unfoldable pub stepName : Stage → Points → ℕ → ℕ → Name
+stepName s J i t =
+    cond (leb t (firstJumper s J i)) (name (lowestNode s J i) 0)
+    (cond (ltb (lastJumper s J i) t) (name (lowestNode s J (s .parent i)) 0) (name i (highest t (λ p. J i p))))
 
-unfoldable pub stepPosition : Stage → Points → ℕ → ℕ → ℕ
-stepPosition s J i t =
-    cond (leb t (firstJumper s J i)) 0 (cond (ltb (lastJumper s J i) t) 0 (highest t (λ p. J i p)))
-
--- the name of an element: number and position
-abbrev pub numberOf : Stage → Points → Element → ℕ
-numberOf s J (node i) = lowestNode s J i
-numberOf s J (step i t) = stepNumber s J i t
-
-abbrev pub positionOf : Stage → Points → Element → ℕ
-positionOf s J (node i) = 0
-positionOf s J (step i t) = stepPosition s J i t
-
--- the element is there
-abbrev pub isReal : Stage → Element → Bool
-isReal s (node i) = ltb i (s .nodes)
-isReal s (step i t) = s .present i && (leb 1 t && leb t (s .len i))
+-- the name of the piece that an element is in
+abbrev pub nameOf : Stage → Points → Element → Name
+nameOf s J (node i) = name (lowestNode s J i) 0
+nameOf s J (step i t) = stepName s J i t
 
 -- the elements of a name
-unfoldable pub named : Stage → Points → ℕ → ℕ → Group
-named s J number position e = isReal s e && (eqb (numberOf s J e) number && eqb (positionOf s J e) position)
+unfoldable pub named : Stage → Points → Name → Group
+named s J n e = isReal s e && (eqb (nameOf s J e .number) (n .number) && eqb (nameOf s J e .position) (n .position))

@@ -4,51 +4,39 @@ use Prim.Native.Nat.{ℕ, suc, _≤_, _<_}
 use mathlib.Core.Path.{_≡_, refl, sym, _∙_}
 use mathlib.Core.Bool.{true, false, _&&_}
 use native.Mathlib.Omega.{arith}
-use lib.Dec.{leb, eqb}
-use borrow.Author.Tests.{ltb-true, leb-true, lt-ltb, le-leb, eq-eqb, eqb-true}
+use lib.Dec.{eqb}
+use borrow.Author.Tests.{eq-eqb, eqb-true}
 use Rattle.laws.specs.Sum.{highest}
 use Rattle.laws.specs.Sums.{by, no-both, not-true-false, and-left, and-right, and-intro}
 use Rattle.net.specs.Stage.{Stage}
 use Rattle.net.specs.Formed.{Formed}
-use Rattle.pieces.specs.Piece.{Points, Element, node, step, Real, a-node, a-step, Touch, along, foot, head, via, Connected, touching, same, back, chain, Group, Piece}
-use Rattle.pieces.specs.Name.{Inside, firstJumper, lastJumper, lowestNode, numberOf, positionOf, isReal, named}
-use Rattle.pieces.specs.Lowest.{lowestNode-≤}
+use Rattle.pieces.specs.Piece.{Points, Element, node, step, Touch, along, foot, head, via, Connected, touching, same, back, chain, Group, Piece, isReal}
+use Rattle.pieces.specs.Real.{Real, a-node, a-step, real-is, is-real}
+use Rattle.pieces.specs.Inside.{Inside}
+use Rattle.pieces.specs.Name.{firstJumper, lastJumper, nameOf, named, name}
 use Rattle.pieces.specs.Jumpers.{step-cases, number-mid, position-low, position-high, position-mid}
 use Rattle.pieces.specs.Names.{connected-name, name-connected}
 
-pub real-is : (s : Stage) {e : Element} → Real s e → isReal s e ≡ true
-real-is s (a-node {i} p) = lt-ltb i (s .nodes) p
-real-is s (a-step {i} {t} p l h) = and-intro p (and-intro (le-leb 1 t l) (le-leb t (s .len i) h))
-
-pub is-real : (s : Stage) (e : Element) → isReal s e ≡ true → Real s e
-is-real s (node i) h = a-node (ltb-true i (s .nodes) h)
-is-real s (step i t) h =
-    let r = and-right (s .present i) (leb 1 t && leb t (s .len i)) h in
-    a-step
-    (and-left (s .present i) (leb 1 t && leb t (s .len i)) h)
-    (leb-true 1 t (and-left (leb 1 t) (leb t (s .len i)) r))
-    (leb-true t (s .len i) (and-right (leb 1 t) (leb t (s .len i)) r))
-
 module _ (s : Stage) (J : Points) where
-  pub named-yes : {n p : ℕ} (e : Element) → Real s e → numberOf s J e ≡ n → positionOf s J e ≡ p → named s J n p e ≡ true
+  pub named-yes : {n p : ℕ} (e : Element) → Real s e → nameOf s J e .number ≡ n → nameOf s J e .position ≡ p → named s J (name n p) e ≡ true
   unfolding named
-  named-yes {n} {p} e r a b = and-intro (real-is s r) (and-intro (eq-eqb (numberOf s J e) n a) (eq-eqb (positionOf s J e) p b))
+  named-yes {n} {p} e r a b = and-intro (real-is s r) (and-intro (eq-eqb (nameOf s J e .number) n a) (eq-eqb (nameOf s J e .position) p b))
 
-  pub named-real : (n p : ℕ) (e : Element) → named s J n p e ≡ true → Real s e
+  pub named-real : (n p : ℕ) (e : Element) → named s J (name n p) e ≡ true → Real s e
   unfolding named
-  named-real n p e h = is-real s e (and-left (isReal s e) (eqb (numberOf s J e) n && eqb (positionOf s J e) p) h)
+  named-real n p e h = is-real s e (and-left (isReal s e) (eqb (nameOf s J e .number) n && eqb (nameOf s J e .position) p) h)
 
-  pub named-number : (n p : ℕ) (e : Element) → named s J n p e ≡ true → numberOf s J e ≡ n
+  pub named-number : (n p : ℕ) (e : Element) → named s J (name n p) e ≡ true → nameOf s J e .number ≡ n
   unfolding named
   named-number n p e h =
-      let r = and-right (isReal s e) (eqb (numberOf s J e) n && eqb (positionOf s J e) p) h in
-      eqb-true (numberOf s J e) n (and-left (eqb (numberOf s J e) n) (eqb (positionOf s J e) p) r)
+      let r = and-right (isReal s e) (eqb (nameOf s J e .number) n && eqb (nameOf s J e .position) p) h in
+      eqb-true (nameOf s J e .number) n (and-left (eqb (nameOf s J e .number) n) (eqb (nameOf s J e .position) p) r)
 
-  pub named-position : (n p : ℕ) (e : Element) → named s J n p e ≡ true → positionOf s J e ≡ p
+  pub named-position : (n p : ℕ) (e : Element) → named s J (name n p) e ≡ true → nameOf s J e .position ≡ p
   unfolding named
   named-position n p e h =
-      let r = and-right (isReal s e) (eqb (numberOf s J e) n && eqb (positionOf s J e) p) h in
-      eqb-true (positionOf s J e) p (and-right (eqb (numberOf s J e) n) (eqb (positionOf s J e) p) r)
+      let r = and-right (isReal s e) (eqb (nameOf s J e .number) n && eqb (nameOf s J e .position) p) h in
+      eqb-true (nameOf s J e .position) p (and-right (eqb (nameOf s J e .number) n) (eqb (nameOf s J e .position) p) r)
 
 module _ (s : Stage) (J : Points) (formed : Formed s) where
   parent-real : (i : ℕ) → s .present i ≡ true → Real s (node (s .parent i))
@@ -69,14 +57,14 @@ module _ (s : Stage) (J : Points) (formed : Formed s) where
       let r = connected-real c in let q = connected-real c′ in (λ x. q .0 (r .0 x), λ x. r .1 (q .1 x))
 
 module _ (s : Stage) (J : Points) (formed : Formed s) (inside : Inside s J) where
-  pub named-piece : (e : Element) → Real s e → Piece s J (named s J (numberOf s J e) (positionOf s J e))
+  pub named-piece : (e : Element) → Real s e → Piece s J (named s J (nameOf s J e))
   named-piece e r =
-      let n = numberOf s J e in
-      let p = positionOf s J e in
+      let n = nameOf s J e .number in
+      let p = nameOf s J e .position in
       record {
         one = e;
         has-one = named-yes s J e r refl refl;
-        real = named-real s J n p;
+        real = λ f x. real-is s (named-real s J n p f x);
         connected = λ d f x y.
             name-connected s J formed inside d f (named-real s J n p d x) (named-real s J n p f y)
             (named-number s J n p d x ∙ sym (named-number s J n p f y), named-position s J n p d x ∙ sym (named-position s J n p f y));
@@ -85,33 +73,29 @@ module _ (s : Stage) (J : Points) (formed : Formed s) (inside : Inside s J) wher
             named-yes s J f (connected-real s J formed c .0 (named-real s J n p d x)) (sym (m .0) ∙ named-number s J n p d x) (sym (m .1) ∙ named-position s J n p d x);
       }
 
-  pub piece-named : (P : Group) → Piece s J P → (d : Element) → P d ≡ true → (e : Element) → P e ≡ named s J (numberOf s J d) (positionOf s J d) e
+  pub piece-named : (P : Group) → Piece s J P → (d : Element) → P d ≡ true → (e : Element) → P e ≡ named s J (nameOf s J d) e
   piece-named P piece d has e =
-      let n = numberOf s J d in
-      let p = positionOf s J d in
+      let n = nameOf s J d .number in
+      let p = nameOf s J d .position in
       by (P e)
       (λ y.
       let m = connected-name s J formed inside (piece .connected d e has y) in
-      y ∙ sym (named-yes s J e (piece .real e y) (sym (m .0)) (sym (m .1))))
+      y ∙ sym (named-yes s J e (is-real s e (piece .real e y)) (sym (m .0)) (sym (m .1))))
       (λ z.
-      z ∙ sym (not-true-false (named s J n p e) (λ y.
+      z ∙ sym (not-true-false (named s J (name n p) e) (λ y.
       no-both
       (piece .largest d e has
-      (name-connected s J formed inside d e (piece .real d has) (named-real s J n p e y)
+      (name-connected s J formed inside d e (is-real s d (piece .real d has)) (named-real s J n p e y)
       (sym (named-number s J n p e y), sym (named-position s J n p e y))))
       z)))
 
-  -- no node of a node's piece is lower than its lowest node
-  pub lowestNode-least : (i k : ℕ) → Connected s J (node i) (node k) → lowestNode s J i ≤ k
-  lowestNode-least i k c = let e = connected-name s J formed inside c .0 in let l = lowestNode-≤ s J formed k in omega arith
-
   -- a name with a position above 0 has no node
-  pub stretch-no-node : (n p k : ℕ) → 1 ≤ p → named s J n p (node k) ≡ false
+  pub stretch-no-node : (n p k : ℕ) → 1 ≤ p → named s J (name n p) (node k) ≡ false
   stretch-no-node n p k q =
-      not-true-false (named s J n p (node k)) (λ y. let e : 0 ≡ p = named-position s J n p (node k) y in omega arith)
+      not-true-false (named s J (name n p) (node k)) (λ y. let e : 0 ≡ p = named-position s J n p (node k) y in omega arith)
 
   -- a name with a position above 0 is a stretch between two jumpers of one wire
-  pub named-stretch : (n p i t : ℕ) → 1 ≤ p → named s J n p (step i t) ≡ true →
+  pub named-stretch : (n p i t : ℕ) → 1 ≤ p → named s J (name n p) (step i t) ≡ true →
       (n ≡ i) × (firstJumper s J i < t) × (t ≤ lastJumper s J i) × (highest t (λ x. J i x) ≡ p)
   named-stretch n p i t q y =
       let num = named-number s J n p (step i t) y in

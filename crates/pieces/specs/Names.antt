@@ -10,14 +10,16 @@ use Rattle.laws.specs.Sum.{any, highest}
 use Rattle.laws.specs.Sums.{by, no-both, highest-most}
 use Rattle.net.specs.Stage.{Stage}
 use Rattle.net.specs.Formed.{Formed}
-use Rattle.pieces.specs.Piece.{Points, Element, node, step, Real, a-step, Touch, along, foot, head, via, Connected, touching, same, back, chain}
-use Rattle.pieces.specs.Name.{Inside, cutAt, firstJumper, lastJumper, joins, lowestNode, numberOf, positionOf}
+use Rattle.pieces.specs.Piece.{Points, Element, node, step, Touch, along, foot, head, via, Connected, touching, same, back, chain}
+use Rattle.pieces.specs.Real.{Real, a-step}
+use Rattle.pieces.specs.Inside.{Inside}
+use Rattle.pieces.specs.Name.{cutAt, firstJumper, lastJumper, joins, lowestNode, nameOf}
 use Rattle.pieces.specs.Lowest.{joins-yes, joins-present, joins-uncut, lowestNode-up, lowestNode-stop, joins-below}
 use Rattle.pieces.specs.Jumpers.{first-uncut, first-jumper, last-jumper, below-first, above-last, first-≤, first-last, above-first-cut, step-cases, number-low, position-low, number-high, position-high, number-mid, position-mid, below-mid}
 
 -- two elements have one name
 abbrev pub SameName : Stage → Points → Element → Element → Type 0
-SameName s J d e = (numberOf s J d ≡ numberOf s J e) × (positionOf s J d ≡ positionOf s J e)
+SameName s J d e = (nameOf s J d .number ≡ nameOf s J e .number) × (nameOf s J d .position ≡ nameOf s J e .position)
 
 -- an element of a name
 chosen : ℕ → ℕ → Element
@@ -137,7 +139,7 @@ module _ (s : Stage) (J : Points) (formed : Formed s) (inside : Inside s J) wher
           (λ j. rw (lowestNode-stop s J formed i j) same)
 
   -- every element is connected to the chosen one of its name
-  to-chosen : (e : Element) → Real s e → Connected s J e (chosen (numberOf s J e) (positionOf s J e))
+  to-chosen : (e : Element) → Real s e → Connected s J e (chosen (nameOf s J e .number) (nameOf s J e .position))
   unfolding chosen
   to-chosen (node i) r = to-lowest i
   to-chosen (step i t) (a-step present p l) =
@@ -153,5 +155,5 @@ module _ (s : Stage) (J : Points) (formed : Formed s) (inside : Inside s J) wher
 
   pub name-connected : (d e : Element) → Real s d → Real s e → SameName s J d e → Connected s J d e
   name-connected d e r r′ n =
-      let c : Connected s J d (chosen (numberOf s J e) (positionOf s J e)) = rw (n .0, n .1) at (to-chosen d r) in
+      let c : Connected s J d (chosen (nameOf s J e .number) (nameOf s J e .position)) = rw (n .0, n .1) at (to-chosen d r) in
       chain c (back (to-chosen e r′))

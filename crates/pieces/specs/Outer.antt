@@ -3,23 +3,25 @@
 -- Assumes nothing.
 use Prim.Native.Nat.{ℕ, zero, suc, _+_, _-_, _*_, _≤_}
 use mathlib.Core.Path.{_≡_, refl, sym, _∙_}
-use mathlib.Core.Bool.{Bool, true, false, not, _&&_, _||_}
+use mathlib.Core.Bool.{Bool, true, false, _&&_, _||_}
 use mathlib.Core.List.{List}
 use native.Mathlib.Omega.{arith}
 use native.Mathlib.Nat.{lt-irrefl}
-use lib.Dec.{eqb}
-use borrow.Author.Tests.{eq-eqb}
+use lib.Dec.{ltb, eqb}
+use borrow.Author.Tests.{ltb-true, ltb-false, eq-eqb}
 use Rattle.laws.specs.Sum.{χ, sum}
-use Rattle.laws.specs.Sums.{by, not-true-false, and-left, and-intro, and-no-left, or-left, or-right, χ-no, sum-ap, sum-≤, sum-+, sum-zero, any-yes, any-none, lowest-is, highest-is}
+use Rattle.laws.specs.Sums.{by, not-true-false, and-left, and-intro, and-no-left, or-left, or-right, χ-no, sum-ap, sum-≤, sum-+, sum-zero, sum-tight, any-yes, any-none, lowest-is, highest-is}
 use Rattle.net.specs.Stage.{Stage}
 use Rattle.net.specs.Formed.{Formed}
 use Rattle.pieces.specs.Piece.{Points}
 use Rattle.pieces.specs.Legal.{Legal, Smallest, size, listed}
-use Rattle.pieces.specs.Name.{Inside, cutAt, firstJumper, lastJumper, joins, follow, lowestNode}
+use Rattle.pieces.specs.Inside.{Inside}
+use Rattle.pieces.specs.Name.{cutAt, firstJumper, lastJumper, joins, follow, lowestNode}
 use Rattle.pieces.specs.Weight.{wireAdds, nodeWeight}
 use Rattle.pieces.specs.Jumpers.{uncut-none, first-uncut, last-uncut, first-jumper, last-jumper, first-last, below-first, above-last}
 use Rattle.pieces.specs.LegalByNodes.{free-inside, legal→nodes, nodes→legal}
 use Rattle.pieces.specs.Size.{once, either}
+use Rattle.pieces.specs.SmallestSet.{SmallestSet}
 
 -- the lowest and the highest jumper of each wire
 unfoldable pub outer : Stage → Points → Points
@@ -141,7 +143,33 @@ outer-size s formed limit J legal =
     none : (t : ℕ) → J 0 t ≡ true → ⊥
     none t h = lt-irrefl 0 (omega (arith, formed .below 0 (legal .free 0 t h .present)))
 
--- a smallest legal set has at most two jumpers for each wire
+-- the rows of the outer jumpers are no longer
+outer-least : (s : Stage) (J : Points) (i : ℕ) → sum (s .len i) (λ t. χ (outer s J i t) 1) ≤ sum (s .len i) (λ t. χ (J i t) 1)
+outer-least s J i = sum-≤ (s .len i) (λ t p. test (outer s J i t) (J i t) (outer-in s J i t))
+  where
+    test : (a b : Bool) → (a ≡ true → b ≡ true) → χ a 1 ≤ χ b 1
+    test true b h = rw (h refl) (omega arith)
+    test false b h = omega arith
+
+-- a smallest legal set has at most two jumpers on each wire
+pub two-on-wire : (s : Stage) → Formed s → (limit : ℕ) (J : Points) → SmallestSet s limit J → (i : ℕ) → sum (s .len i) (λ t. χ (J i t) 1) ≤ 2
+unfolding size
+two-on-wire s formed limit J m i =
+    by (ltb i (s .nodes))
+    (λ y.
+    let few = m .fewest (outer s J) (outer-legal s formed limit J (m .legal)) in
+    let same =
+    sum-tight (s .nodes) {f = λ i. sum (s .len i) (λ t. χ (outer s J i t) 1)} {g = λ i. sum (s .len i) (λ t. χ (J i t) 1)} (λ j p. outer-least s J j) few i (ltb-true i (s .nodes) y) in
+    let most = outer-row s J i in
+    omega arith)
+    (λ z.
+    let none = sum-zero (s .len i) {f = λ t. χ (J i t) 1} (λ t p. χ-no 1 (not-true-false (J i t) (λ h. outside t h (ltb-false i (s .nodes) z)))) in
+    omega arith)
+  where
+    outside : (t : ℕ) → J i t ≡ true → s .nodes ≤ i → ⊥
+    outside t h le = let p = formed .inside i (m .legal .free i t h .present) in lt-irrefl 0 (omega arith)
+
+-- so a smallest list has at most two entries for each wire
 pub smallest-few : (s : Stage) → Formed s → (limit : ℕ) (list : List ℕ) (n : ℕ) → Smallest s limit list n → n ≤ 2 * (s .nodes - 1)
 smallest-few s formed limit list n m =
     let J = listed list n in

@@ -2,8 +2,9 @@
 -- Over a net at a stage and a set of jumpers. Assumes nothing.
 use Prim.Native.Nat.{ℕ, suc, _≤_, _<_}
 use mathlib.Core.Path.{_≡_}
-use mathlib.Core.Bool.{Bool, true, false}
-use Rattle.laws.specs.Sum.{χ, sum}
+use mathlib.Core.Bool.{Bool, true, false, not, _&&_}
+use lib.Dec.{leb, ltb}
+use Rattle.laws.specs.Sum.{χ, sum, any}
 use Rattle.net.specs.Stage.{Stage}
 
 -- a set of points: wire, position
@@ -16,9 +17,9 @@ pub data Element : Type 0 where
   step : ℕ → ℕ → Element
 
 -- the elements that are there: all nodes, and steps 1 to length of each present wire
-pub data Real (s : Stage) : Element → Type 0 where
-  a-node : {i : ℕ} → i < s .nodes → Real s (node i)
-  a-step : {i t : ℕ} → s .present i ≡ true → 1 ≤ t → t ≤ s .len i → Real s (step i t)
+abbrev pub isReal : Stage → Element → Bool
+isReal s (node i) = ltb i (s .nodes)
+isReal s (step i t) = s .present i && (leb 1 t && leb t (s .len i))
 
 -- two elements touch: two steps of one wire at their shared point unless a jumper stands there; steps and present vias at nodes
 pub data Touch (s : Stage) (J : Points) : Element → Element → Type 0 where
@@ -42,7 +43,7 @@ Group = Element → Bool
 pub record Piece (s : Stage) (J : Points) (P : Group) : Type 0 where
   pub one : Element
   pub has-one : P one ≡ true
-  pub real : (e : Element) → P e ≡ true → Real s e
+  pub real : (e : Element) → P e ≡ true → isReal s e ≡ true
   pub connected : (d e : Element) → P d ≡ true → P e ≡ true → Connected s J d e
   pub largest : (d e : Element) → P d ≡ true → Connected s J d e → P e ≡ true
 
@@ -50,19 +51,13 @@ pub record Piece (s : Stage) (J : Points) (P : Group) : Type 0 where
 unfoldable pub weightOf : Stage → Group → ℕ
 weightOf s P = sum (s .nodes) (λ i. χ (s .present i) (sum (s .len i) (λ t. χ (P (step i (suc t))) (s .factor i))))
 
--- it has a gate
-pub record HasGate (s : Stage) (P : Group) : Type 0 where
-  pub at : ℕ
-  pub inside : at < s .nodes
-  pub is-gate : s .gate at ≡ true
-  pub in-it : P (node at) ≡ true
+-- it has a gate; it has a source
+unfoldable pub hasGate : Stage → Group → Bool
+hasGate s P = any (s .nodes) (λ i. s .gate i && P (node i))
 
--- it has no source
-abbrev pub NoSource : Stage → Group → Type 0
-NoSource s P = (i : ℕ) → i < s .nodes → s .source i ≡ true → P (node i) ≡ true → ⊥
+unfoldable pub hasSource : Stage → Group → Bool
+hasSource s P = any (s .nodes) (λ i. s .source i && P (node i))
 
 -- harmful: it has a gate, no source, and weighs more than the limit
-pub record Harmful (s : Stage) (limit : ℕ) (P : Group) : Type 0 where
-  pub gated : HasGate s P
-  pub sourceless : NoSource s P
-  pub heavy : limit < weightOf s P
+unfoldable pub isHarmful : Stage → ℕ → Group → Bool
+isHarmful s limit P = hasGate s P && (not (hasSource s P) && ltb limit (weightOf s P))

@@ -11,11 +11,13 @@ use Rattle.laws.specs.Sum.{χ, sum, any, highest}
 use Rattle.laws.specs.Sums.{by, not-true-false, and-true, and-false, and-left, and-right, and-intro, and-no-left, and-no-right, χ-yes, χ-no, χ-ap, χ-zero, sum-ap, sum-+, sum-zero, sum-one, sum-stretch, highest-passes, highest-none, highest-≥, highest-last}
 use Rattle.net.specs.Stage.{Stage}
 use Rattle.net.specs.Formed.{Formed}
-use Rattle.pieces.specs.Piece.{Points, Element, step, Real, a-step, Group, weightOf}
-use Rattle.pieces.specs.Name.{Inside, cutAt, firstJumper, lastJumper, lowestNode, stepNumber, stepPosition, named}
+use Rattle.pieces.specs.Piece.{Points, Element, step, Group, weightOf}
+use Rattle.pieces.specs.Real.{Real, a-step, real-is}
+use Rattle.pieces.specs.Inside.{Inside}
+use Rattle.pieces.specs.Name.{cutAt, firstJumper, lastJumper, lowestNode, stepName, named, name}
 use Rattle.pieces.specs.Weight.{wireAdds, nodeWeight}
 use Rattle.pieces.specs.Jumpers.{first-≤, first-last, first-least, last-most, above-first-cut, step-cases, number-low, number-high, number-mid, position-low, position-high, position-mid, below-mid}
-use Rattle.pieces.specs.Named.{real-is, named-yes, named-stretch}
+use Rattle.pieces.specs.Named.{named-yes, named-stretch}
 
 -- groups with the same elements weigh the same
 pub weight-same : (s : Stage) (P Q : Group) → ((e : Element) → P e ≡ Q e) → weightOf s P ≡ weightOf s Q
@@ -29,8 +31,8 @@ weight-same s P Q same =
 χ-mul false n x = mul-zero n
 
 -- the name of a real step decides whether it is in a named group
-named-step : (s : Stage) (J : Points) (n p a b i t : ℕ) → Real s (step i t) → stepNumber s J i t ≡ a → stepPosition s J i t ≡ b →
-    named s J n p (step i t) ≡ (eqb a n && eqb b p)
+named-step : (s : Stage) (J : Points) (n p a b i t : ℕ) → Real s (step i t) → stepName s J i t .number ≡ a → stepName s J i t .position ≡ b →
+    named s J (name n p) (step i t) ≡ (eqb a n && eqb b p)
 unfolding named
 named-step s J n p a b i t r x y = rw (real-is s r, x, y)
 
@@ -42,7 +44,7 @@ module _ (s : Stage) (J : Points) (inside : Inside s J) (h i : ℕ) (present : s
   high-adds : ℕ → ℕ
   high-adds t = χ (cutAt s J i && leb (lastJumper s J i) t) (χ (eqb (lowestNode s J (s .parent i)) h) (s .factor i))
 
-  step-adds : (t : ℕ) → t < s .len i → χ (named s J h 0 (step i (suc t))) (s .factor i) ≡ low-adds t + high-adds t
+  step-adds : (t : ℕ) → t < s .len i → χ (named s J (name h 0) (step i (suc t))) (s .factor i) ≡ low-adds t + high-adds t
   unfolding low-adds high-adds
   step-adds t l =
       let r : Real s (step i (suc t)) = a-step {t = suc t} present (omega arith) l in
@@ -94,7 +96,7 @@ module _ (s : Stage) (J : Points) (inside : Inside s J) (h i : ℕ) (present : s
       sum-zero (s .len i) {f = high-adds} (λ t l. χ-no x (and-no-left (leb (lastJumper s J i) t) u))
       ∙ sym (χ-no ((s .len i - lastJumper s J i) * s .factor i) (and-no-left (eqb (lowestNode s J (s .parent i)) h) u)))
 
-  wire-adds : sum (s .len i) (λ t. χ (named s J h 0 (step i (suc t))) (s .factor i)) ≡ wireAdds s J h i
+  wire-adds : sum (s .len i) (λ t. χ (named s J (name h 0) (step i (suc t))) (s .factor i)) ≡ wireAdds s J h i
   unfolding wireAdds
   wire-adds =
       let a = sum-ap (s .len i) {g = λ t. low-adds t + high-adds t} step-adds in
@@ -103,31 +105,31 @@ module _ (s : Stage) (J : Points) (inside : Inside s J) (h i : ℕ) (present : s
 
 module _ (s : Stage) (J : Points) (inside : Inside s J) where
   -- the weight of the piece whose lowest node is h
-  pub class-weight : (h : ℕ) → weightOf s (named s J h 0) ≡ nodeWeight s J h
+  pub class-weight : (h : ℕ) → weightOf s (named s J (name h 0)) ≡ nodeWeight s J h
   unfolding weightOf nodeWeight
   class-weight h = sum-ap (s .nodes) (λ i l. χ-ap (s .present i) (λ p. wire-adds s J inside h i p))
 
   -- the weight of the stretch between the consecutive jumpers p and q of wire i
   pub stretch-weight : Formed s → (i p q : ℕ) → s .present i ≡ true → J i p ≡ true → J i q ≡ true → p < q → ((t : ℕ) → p < t → t < q → J i t ≡ false) →
-      weightOf s (named s J i p) ≡ (q - p) * s .factor i
+      weightOf s (named s J (name i p)) ≡ (q - p) * s .factor i
   unfolding weightOf
   stretch-weight formed i p q present at-p at-q less none =
       sum-one (s .nodes) i adds (formed .inside i present) (λ j l ne. χ-ap (s .present j) (λ w. others j ne) ∙ χ-zero (s .present j))
-      ∙ (χ-yes (sum (s .len i) (λ t. χ (named s J i p (step i (suc t))) (s .factor i))) present ∙ own)
+      ∙ (χ-yes (sum (s .len i) (λ t. χ (named s J (name i p) (step i (suc t))) (s .factor i))) present ∙ own)
     where
       adds : ℕ → ℕ
-      adds j = χ (s .present j) (sum (s .len j) (λ t. χ (named s J i p (step j (suc t))) (s .factor j)))
+      adds j = χ (s .present j) (sum (s .len j) (λ t. χ (named s J (name i p) (step j (suc t))) (s .factor j)))
 
       low : 1 ≤ p
       low = inside i p at-p .0
 
-      others : (j : ℕ) → (j ≡ i → ⊥) → sum (s .len j) (λ t. χ (named s J i p (step j (suc t))) (s .factor j)) ≡ 0
+      others : (j : ℕ) → (j ≡ i → ⊥) → sum (s .len j) (λ t. χ (named s J (name i p) (step j (suc t))) (s .factor j)) ≡ 0
       others j ne =
           sum-zero (s .len j) (λ t l.
-          χ-no (s .factor j) (not-true-false (named s J i p (step j (suc t))) (λ y. ne (sym (named-stretch s J formed inside i p j (suc t) low y .0)))))
+          χ-no (s .factor j) (not-true-false (named s J (name i p) (step j (suc t))) (λ y. ne (sym (named-stretch s J formed inside i p j (suc t) low y .0)))))
 
-      out : (t : ℕ) → (highest (suc t) (λ x. J i x) ≡ p → ⊥) → χ (named s J i p (step i (suc t))) (s .factor i) ≡ 0
-      out t ne = χ-no (s .factor i) (not-true-false (named s J i p (step i (suc t))) (λ y. ne (named-stretch s J formed inside i p i (suc t) low y .3)))
+      out : (t : ℕ) → (highest (suc t) (λ x. J i x) ≡ p → ⊥) → χ (named s J (name i p) (step i (suc t))) (s .factor i) ≡ 0
+      out t ne = χ-no (s .factor i) (not-true-false (named s J (name i p) (step i (suc t))) (λ y. ne (named-stretch s J formed inside i p i (suc t) low y .3)))
 
       below : (t : ℕ) → highest (suc t) (λ x. J i x) ≡ p → p < suc t
       below t e =
@@ -135,10 +137,10 @@ module _ (s : Stage) (J : Points) (inside : Inside s J) where
           (λ y. let r = highest-passes (suc t) (λ x. J i x) y in omega (arith, r .0))
           (λ z. let r = highest-none (suc t) (λ x. J i x) z in omega arith)
 
-      own : sum (s .len i) (λ t. χ (named s J i p (step i (suc t))) (s .factor i)) ≡ (q - p) * s .factor i
+      own : sum (s .len i) (λ t. χ (named s J (name i p) (step i (suc t))) (s .factor i)) ≡ (q - p) * s .factor i
       own =
           let b = inside i q at-q in
-          sum-stretch (s .len i) p q (s .factor i) (λ t. χ (named s J i p (step i (suc t))) (s .factor i)) (omega arith) (omega arith)
+          sum-stretch (s .len i) p q (s .factor i) (λ t. χ (named s J (name i p) (step i (suc t))) (s .factor i)) (omega arith) (omega arith)
           (λ t y z.
           let f = first-least s J inside i p at-p in
           let l = last-most s J inside i q at-q in

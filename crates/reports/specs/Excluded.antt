@@ -14,11 +14,11 @@ use Rattle.net.specs.Stage.{stageOf}
 use Rattle.net.specs.File.{fileOf, headOf, pairsRight, stretch}
 use Rattle.net.specs.Refusal.{none, refusal, met, answer, stageRefusal, readRefusal, headRefusal, pairsRefusal, netRefusal, sectionsRefusal, nodeRefusal, wireRefusal, obstacleRefusal, firstOf, sectionOf}
 use Rattle.net.specs.Call.{netAt, callRefusal}
-use Rattle.pieces.specs.Piece.{weightOf}
-use Rattle.pieces.specs.Legal.{listed}
-use Rattle.pieces.specs.Name.{cutAt, firstJumper, lastJumper, joins, follow, lowestNode, stepNumber, stepPosition, named}
-use Rattle.pieces.specs.JumperList.{after, pointRefusal, entryRefusal, listRefusal, setOf}
-use Rattle.pieces.specs.Report.{nodeNames, stretchNames, pieceNames, hasGate, hasSource, isHarmful, flagsOf, hasLayer, layersOf, layerCount, lowestLayer, recordOf, reportOf}
+use Rattle.pieces.specs.Piece.{weightOf, hasGate, hasSource, isHarmful}
+use Rattle.pieces.specs.Legal.{listed, after}
+use Rattle.pieces.specs.Name.{cutAt, firstJumper, lastJumper, joins, follow, lowestNode, stepName, named}
+use Rattle.pieces.specs.JumperList.{pointRefusal, entryRefusal, listRefusal, setOf}
+use Rattle.pieces.specs.Report.{nodeNames, stretchNames, pieceNames, flagsOf, hasLayer, layersOf, layerCount, lowestLayer, recordOf, reportOf}
 use Rattle.reports.specs.Promise.{pieceCount, piecesBuffer, reportAnswer, reportBuffer}
 use Rattle.reports.specs.Reporting.{call-refused-answer, call-refused-buffer, list-refused-answer, list-refused-buffer, short-answer, short-buffer, done-answer, done-buffer}
 
@@ -93,7 +93,7 @@ pub record SmallReports : Type 0 where
   pub stage-first : (file list out : List ℕ) → Refuses 17 3 file list (refusal 1 0) out
 
 pub small-reports : SmallReports
-unfolding fileOf headOf pairsRight stretch stageRefusal readRefusal headRefusal pairsRefusal netRefusal sectionsRefusal nodeRefusal wireRefusal obstacleRefusal firstOf sectionOf stageOf wireLength barred holds pointX pointY sum any lowest highest gather flatMap weightOf listed cutAt firstJumper lastJumper joins follow lowestNode stepNumber stepPosition named after pointRefusal entryRefusal listRefusal nodeNames stretchNames pieceNames hasGate hasSource isHarmful flagsOf hasLayer layersOf layerCount lowestLayer recordOf reportOf
+unfolding fileOf headOf pairsRight stretch stageRefusal readRefusal headRefusal pairsRefusal netRefusal sectionsRefusal nodeRefusal wireRefusal obstacleRefusal firstOf sectionOf stageOf wireLength barred holds pointX pointY sum any lowest highest gather flatMap weightOf listed cutAt firstJumper lastJumper joins follow lowestNode stepName named after pointRefusal entryRefusal listRefusal nodeNames stretchNames pieceNames hasGate hasSource isHarmful flagsOf hasLayer layersOf layerCount lowestLayer recordOf reportOf
 small-reports =
     record {
       one-piece = reports 1 12 (fileA 1 1) [] 1 (bytes 0 0 13 5 1 1 1) refl refl refl refl;

@@ -18,7 +18,8 @@ use Rattle.net.specs.Net.{isGate, isSource, nodeFlags, wireParent, wireLayer, w
 use Rattle.net.specs.Stage.{Stage}
 use Rattle.net.specs.Formed.{Formed}
 use Rattle.pieces.specs.Piece.{Points}
-use Rattle.pieces.specs.Name.{Inside, cutAt, firstJumper, lastJumper, lowestNode}
+use Rattle.pieces.specs.Inside.{Inside}
+use Rattle.pieces.specs.Name.{cutAt, firstJumper, lastJumper, lowestNode}
 use Rattle.pieces.specs.Weight.{wireAdds}
 use Rattle.pieces.specs.Jumpers.{first-uncut, first-last}
 use Rattle.reports.specs.Gathered.{flag, stepsIn, weightBelow, flagsBelow, layersBelow, Gathered}

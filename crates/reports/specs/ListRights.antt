@@ -19,7 +19,8 @@ use Rattle.net.specs.Formed.{Formed}
 use Rattle.points.specs.Cuttable.{Checked}
 use Rattle.points.specs.Geometry.{checked-of}
 use Rattle.net.specs.Accepted.{formed, present-positive, present-inside}
-use Rattle.pieces.specs.Name.{Inside, cutAt, lowestNode}
+use Rattle.pieces.specs.Inside.{Inside}
+use Rattle.pieces.specs.Name.{cutAt, lowestNode}
 use Rattle.pieces.specs.Lowest.{joins-yes, cut-apart, absent-apart, lowestNode-up, lowestNode-stop, lowestNode-≤}
 use Rattle.pieces.specs.Legal.{entryPosition}
 use Rattle.pieces.specs.JumperList.{entryCount, setOf}

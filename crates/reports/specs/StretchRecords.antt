@@ -15,13 +15,15 @@ use Rattle.laws.specs.Gather.{only, gather}
 use Rattle.net.specs.Layout.{mostLayers}
 use Rattle.net.specs.Stage.{Stage}
 use Rattle.net.specs.Formed.{Formed}
-use Rattle.pieces.specs.Piece.{Points, node, step, a-step}
-use Rattle.pieces.specs.Name.{Inside, firstJumper, lastJumper, named}
+use Rattle.pieces.specs.Piece.{Points, node, step, hasGate, hasSource, isHarmful}
+use Rattle.pieces.specs.Real.{a-step}
+use Rattle.pieces.specs.Inside.{Inside}
+use Rattle.pieces.specs.Name.{firstJumper, lastJumper, named, name}
 use Rattle.pieces.specs.Legal.{entryPosition, listed}
 use Rattle.pieces.specs.Weights.{stretch-weight}
 use Rattle.pieces.specs.Jumpers.{first-least, last-most, number-mid, position-mid}
 use Rattle.pieces.specs.Named.{named-yes, stretch-no-node, named-stretch}
-use Rattle.pieces.specs.Report.{name, stretchNames, hasGate, hasSource, isHarmful, flagsOf, hasLayer, layersOf, recordOf}
+use Rattle.pieces.specs.Report.{stretchNames, flagsOf, hasLayer, layersOf, recordOf}
 use Rattle.reports.specs.Record.{fields}
 use Rattle.reports.specs.NodeRecords.{record-fields, layer-mask}
 use Rattle.lists.specs.Entries.{EntriesFree, Rising}
@@ -32,15 +34,15 @@ module _ (s : Stage) (J : Points) (formed : Formed s) (inside : Inside s J)
     (i p q : ℕ) (present : s .present i ≡ true) (at-p : J i p ≡ true) (at-q : J i q ≡ true) (less : p < q)
     (none : (t : ℕ) → p < t → t < q → J i t ≡ false)
   where
-    no-node : (k : ℕ) → named s J i p (node k) ≡ false
+    no-node : (k : ℕ) → named s J (name i p) (node k) ≡ false
     no-node k = stretch-no-node s J formed inside i p k (inside i p at-p .0)
 
-    stretch-flags : (limit : ℕ) → flagsOf s limit (named s J i p) ≡ 0
+    stretch-flags : (limit : ℕ) → flagsOf s limit (named s J (name i p)) ≡ 0
     unfolding flagsOf isHarmful hasGate hasSource
     stretch-flags limit =
-        rw (any-none (s .nodes) (λ k. s .gate k && named s J i p (node k)) (λ k l. and-no-right (s .gate k) (no-node k)), any-none (s .nodes) (λ k. s .source k && named s J i p (node k)) (λ k l. and-no-right (s .source k) (no-node k)))
+        rw (any-none (s .nodes) (λ k. s .gate k && named s J (name i p) (node k)) (λ k l. and-no-right (s .gate k) (no-node k)), any-none (s .nodes) (λ k. s .source k && named s J (name i p) (node k)) (λ k l. and-no-right (s .source k) (no-node k)))
 
-    first-step : named s J i p (step i (suc p)) ≡ true
+    first-step : named s J (name i p) (step i (suc p)) ≡ true
     first-step =
         let b = inside i q at-q in
         let f = first-least s J inside i p at-p in
@@ -51,12 +53,12 @@ module _ (s : Stage) (J : Points) (formed : Formed s) (inside : Inside s J)
         (position-mid s J inside i (suc p) f′ l′
         ∙ highest-last (suc p) p (λ x. J i x) (omega arith) at-p (λ t u v. absurd (native.Mathlib.Nat.lt-irrefl 0 (omega arith))))
 
-    stretch-layer : (b : ℕ) → hasLayer s (named s J i p) b ≡ eqb (s .layer i) (suc b)
+    stretch-layer : (b : ℕ) → hasLayer s (named s J (name i p)) b ≡ eqb (s .layer i) (suc b)
     unfolding hasLayer
     stretch-layer b = same-test (any (s .nodes) has) (eqb (s .layer i) (suc b)) to from
       where
         steps : ℕ → Bool
-        steps k = any (s .len k) (λ t. named s J i p (step k (suc t)))
+        steps k = any (s .len k) (λ t. named s J (name i p) (step k (suc t)))
 
         has : ℕ → Bool
         has k = s .present k && (eqb (s .layer k) (suc b) && steps k)
@@ -66,7 +68,7 @@ module _ (s : Stage) (J : Points) (formed : Formed s) (inside : Inside s J)
             let r = any-some (s .nodes) has y in
             let k = r .0 in
             let w = and-right (s .present k) (eqb (s .layer k) (suc b) && steps k) (r .2) in
-            let u = any-some (s .len k) (λ t. named s J i p (step k (suc t))) (and-right (eqb (s .layer k) (suc b)) (steps k) w) in
+            let u = any-some (s .len k) (λ t. named s J (name i p) (step k (suc t))) (and-right (eqb (s .layer k) (suc b)) (steps k) w) in
             let e = named-stretch s J formed inside i p k (suc (u .0)) (inside i p at-p .0) (u .2) .0 in
             rw e (and-left (eqb (s .layer k) (suc b)) (steps k) w)
 
@@ -74,13 +76,13 @@ module _ (s : Stage) (J : Points) (formed : Formed s) (inside : Inside s J)
         from y =
             let v = inside i q at-q in
             any-yes (s .nodes) i has (formed .inside i present)
-            (and-intro present (and-intro y (any-yes (s .len i) p (λ t. named s J i p (step i (suc t))) (omega arith) first-step)))
+            (and-intro present (and-intro y (any-yes (s .len i) p (λ t. named s J (name i p) (step i (suc t))) (omega arith) first-step)))
 
     pub stretch-record : (limit : ℕ) → 1 ≤ s .layer i → s .layer i ≤ mostLayers →
         recordOf s limit J (name i p) ≡ fields i p ((q - p) * s .factor i) 0 (2 ^ (s .layer i - 1))
     unfolding layersOf
     stretch-record limit low high =
-        let m : layersOf s (named s J i p) ≡ 2 ^ (s .layer i - 1) = mask-ap mostLayers (λ b l. stretch-layer b) ∙ layer-mask (s .layer i) low high in
+        let m : layersOf s (named s J (name i p)) ≡ 2 ^ (s .layer i - 1) = mask-ap mostLayers (λ b l. stretch-layer b) ∙ layer-mask (s .layer i) low high in
         record-fields s limit J (name i p)
         ∙ rw (stretch-flags limit, m, stretch-weight s J inside formed i p q present at-p at-q less none)
 

@@ -15,7 +15,8 @@ use Rattle.net.specs.Stage.{Stage, stageOf}
 use Rattle.net.specs.Accepted.{NetRight, present-positive, present-inside}
 use Rattle.points.specs.Geometry.{checked-of, length-small}
 use Rattle.pieces.specs.Piece.{Points, step, Group, weightOf}
-use Rattle.pieces.specs.Report.{Name, groupOf, recordOf}
+use Rattle.pieces.specs.Name.{Name, named}
+use Rattle.pieces.specs.Report.{recordOf}
 use Rattle.reports.specs.ListRights.{product-small}
 
 module _ (ns ws os : List ℕ) (right : NetRight ns ws os) (nodes : Bytes ns) (wires : Bytes ws) (k : ℕ) (P : Group) where
@@ -40,7 +41,7 @@ module _ (ns ws os : List ℕ) (right : NetRight ns ws os) (nodes : Bytes ns) (w
       omega (arith, right .sized .few-nodes)
 
 -- so the weight field of a record is the weight of its piece
-pub weight-field : (s : Stage) (limit : ℕ) (J : Points) (n : Name) → weightOf s (groupOf s J n) < 2 ^ 32 →
-    le32 (recordOf s limit J n) 3 ≡ weightOf s (groupOf s J n)
+pub weight-field : (s : Stage) (limit : ℕ) (J : Points) (n : Name) → weightOf s (named s J n) < 2 ^ 32 →
+    le32 (recordOf s limit J n) 3 ≡ weightOf s (named s J n)
 unfolding recordOf
-weight-field s limit J n h = le32-bytes32 (weightOf s (groupOf s J n)) h
+weight-field s limit J n h = le32-bytes32 (weightOf s (named s J n)) h

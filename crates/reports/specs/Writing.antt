@@ -19,10 +19,10 @@ use Rattle.net.specs.Layout.{recordBytes}
 use Rattle.net.specs.Net.{nodeCount, wireLayer, wireFactor}
 use Rattle.net.specs.Stage.{Stage, stageOf}
 use Rattle.pieces.specs.Piece.{Points}
-use Rattle.pieces.specs.Name.{lowestNode}
+use Rattle.pieces.specs.Name.{lowestNode, Name, name}
 use Rattle.pieces.specs.Legal.{entryPosition}
 use Rattle.pieces.specs.JumperList.{entryCount, setOf}
-use Rattle.pieces.specs.Report.{Name, name, nodeNames, stretchNames, pieceNames, recordOf, reportOf}
+use Rattle.pieces.specs.Report.{nodeNames, stretchNames, pieceNames, recordOf, reportOf}
 use Rattle.pieces.specs.Reports.{record-length}
 use Rattle.reports.specs.Promise.{pieceCount}
 use Rattle.reports.specs.Record.{fields}

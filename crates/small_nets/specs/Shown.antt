@@ -2,7 +2,7 @@
 -- Assumes nothing.
 use Prim.Native.Nat.{ℕ, zero, suc, _-_, _*_, _≤_, _<_}
 use mathlib.Core.Path.{_≡_, refl, subst, fun-ext}
-use mathlib.Core.Bool.{true, false, not}
+use mathlib.Core.Bool.{true, false}
 use mathlib.Core.List.{List, []}
 use lib.Dec.{leb, eqb}
 use native.Mathlib.Omega.{arith}
@@ -16,7 +16,8 @@ use Rattle.net.specs.Refusal.{none, netRefusal, sectionsRefusal, nodeRefusal, w
 use Rattle.net.specs.Accepted.{net-right, formed}
 use Rattle.pieces.specs.Piece.{Points}
 use Rattle.pieces.specs.Legal.{Free, Legal, NoneLegal, size}
-use Rattle.pieces.specs.Name.{Inside, lowestNode, follow, joins, cutAt, firstJumper, lastJumper}
+use Rattle.pieces.specs.Inside.{Inside}
+use Rattle.pieces.specs.Name.{lowestNode, follow, joins, cutAt, firstJumper, lastJumper}
 use Rattle.pieces.specs.Lowest.{lowestNode-stop, cut-apart, absent-apart}
 use Rattle.pieces.specs.Jumpers.{uncut-none, first-jumper, last-jumper}
 use Rattle.pieces.specs.Weight.{nodeWeight, wireAdds}
