@@ -11,7 +11,7 @@ use points::length_of;
 ghost use Prim.Native.Nat.{_+_, _*_, _^_, _<_, _≤_};
 ghost use lib.ListN.{length, getD};
 ghost use Rattle.net.specs.Layout.{mostLayers};
-ghost use Rattle.net.specs.Limits.{wireWeightBound};
+ghost use Rattle.net.specs.Limits.{lengthBound, wireWeightBound};
 ghost use Rattle.net.specs.Net.{nodeCount, wireLength};
 ghost use Rattle.reports.specs.Gathering.{Named, Added, Joined, Parted};
 ghost use Rattle.reports.specs.ListRight.{ListAccepted, GatheredBelow, Roomy, AtMost};
@@ -31,7 +31,7 @@ fn name_node(lowest: &mut [usize], flags: &mut [u8], i: usize, h: usize, of_node
 fn add_steps(weight: &mut [u64], layers: &mut [u16], h: usize, steps: u32, factor: u8, layer: u8)
     requires { ⌜ (h < length (now weight)) × (h < length (now layers)) ⌝ }
     requires { ⌜ (1 ≤ layer) × (layer ≤ mostLayers) ⌝ }
-    requires { ⌜ getD (now weight) h 0 + steps * factor < 2 ^ 64 ⌝ }
+    requires { ⌜ (steps < lengthBound) × (getD (now weight) h 0 + wireWeightBound ≤ 2 ^ 64) ⌝ }
     ensures { λ r. ⌜ Added (now (weight .entry)) (now (layers .entry)) (now (weight .exit)) (now (layers .exit)) h steps factor layer ⌝ }
 {
     weight[h] = weight[h] + (steps as u64) * (factor as u64);

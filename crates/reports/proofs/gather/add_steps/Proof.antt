@@ -1,6 +1,6 @@
 -- `reports::gather::add_steps` meets its contract.
 -- Assumes nothing.
-use Prim.Native.Nat.{_-_, _*_, _%_, _^_}
+use Prim.Native.Nat.{_-_, _*_, _%_, _^_, _<_}
 use mathlib.Core.Path.{_≡_, refl, _∙_}
 use native.Mathlib.Omega.{arith}
 use native.Mathlib.Nat.{one-mul}
@@ -11,9 +11,14 @@ use lib.Bits.{or-zero-r}
 use borrow.Author.Tests.{lt-ltb, le-ltb}
 use borrow.Author.Needs.{needs}
 use Rattle.laws.specs.Sums.{and-no-right, and-true}
+use Rattle.net.specs.Limits.{wireWeightBound}
+use Rattle.reports.specs.ListRights.{product-small}
 use Rattle.reports.specs.Gathering.{set-or, set-add}
 use Rattle.reports.proofs.gather.add_steps.Statement.{statement}
 use Rattle.reports.proofs.gather.add_steps.Tie as tie
+
+product : (c : tie.Start) → c .args .steps * c .args .factor < wireWeightBound
+product c = product-small (c .args .steps) (c .args .factor) (c .pre .1 .1 .0) (omega arith)
 
 mul-weight : tie.Need-mul-weight
 mul-weight c = search needs
@@ -22,10 +27,10 @@ slice-read-weight : tie.Need-slice-read-weight
 slice-read-weight c = search needs
 
 mul-weight-2 : tie.Need-mul-weight-2
-mul-weight-2 c = search needs
+mul-weight-2 c = record { fits = omega (arith, product (c .before)) }
 
 add-weight : tie.Need-add-weight
-add-weight c = search needs
+add-weight c = record { fits = omega (arith, product (c .before)) }
 
 mul-weight-3 : tie.Need-mul-weight-3
 mul-weight-3 c = search needs

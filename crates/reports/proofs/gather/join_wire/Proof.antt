@@ -7,7 +7,7 @@ use native.Mathlib.Omega.{arith}
 use lib.ListN.{getD}
 use borrow.Author.Needs.{needs}
 use Rattle.net.specs.Limits.{wireWeightBound}
-use Rattle.reports.specs.ListRights.{product-small, added-small, at-more}
+use Rattle.reports.specs.ListRights.{added-small, at-more}
 use Rattle.reports.proofs.gather.join_wire.Statement.{statement}
 use Rattle.reports.proofs.gather.join_wire.Tie as tie
 
@@ -55,10 +55,9 @@ add-steps-requires c κs =
     let s = start p in
     let a = above-below p in
     let len = l .before .before .length-of in
-    let most = s .pre .light (getD (s .args .lowest .now) (p .wire-parent .result) 0) in
-    let product = product-small (len .result) (l .before .wire-factor .result) (len .ensures .1) (omega arith) in (
+    let most = s .pre .light (getD (s .args .lowest .now) (p .wire-parent .result) 0) in (
       (omega (arith, a, s .pre .room .weights), omega (arith, a, s .pre .room .layered)),
-      ((omega (arith, l .wire-layer .ensures, s .pre .low), omega (arith, l .wire-layer .ensures, s .pre .high)), omega (arith, most, product, s .pre .small)),
+      ((omega (arith, l .wire-layer .ensures, s .pre .low), omega (arith, l .wire-layer .ensures, s .pre .high)), (len .ensures .1, omega (arith, most, s .pre .small))),
     )
 
 same-length : tie.Need-same-length

@@ -9,7 +9,7 @@ use borrow.Author.Needs.{needs}
 use Rattle.net.specs.Limits.{wireWeightBound}
 use Rattle.reports.specs.Gathering.{Added}
 use Rattle.reports.specs.ListRight.{AtMost}
-use Rattle.reports.specs.ListRights.{product-small, added-small, at-more}
+use Rattle.reports.specs.ListRights.{added-small, at-more}
 use Rattle.reports.proofs.gather.part_wire.Statement.{statement}
 use Rattle.reports.proofs.gather.part_wire.Tie as tie
 
@@ -57,11 +57,9 @@ add-steps-requires : tie.Need-add-steps-requires
 add-steps-requires c κs =
     let l = c .before .before .before .before .before .before .before .before .before .before in
     let s = start (l .before .before .before .before) in
-    let len = l .before .before .length-of in
-    let most = s .pre .0 .light (s .args .i) in
-    let product = product-small (s .args .first) (l .before .wire-factor .result) (omega (arith, s .pre .1 .0, len .ensures .0, len .ensures .1)) (omega arith) in (
+    let len = l .before .before .length-of in (
       (omega (arith, s .pre .0 .room .weights), omega (arith, s .pre .0 .room .layered)),
-      ((omega (arith, l .wire-layer .ensures, s .pre .0 .low), omega (arith, l .wire-layer .ensures, s .pre .0 .high)), omega (arith, most, product, s .pre .0 .small)),
+      ((omega (arith, l .wire-layer .ensures, s .pre .0 .low), omega (arith, l .wire-layer .ensures, s .pre .0 .high)), (omega (arith, s .pre .1 .0, len .ensures .0, len .ensures .1), omega (arith, s .pre .0 .light (s .args .i), s .pre .0 .small))),
     )
 
 sub-add-steps : tie.Need-sub-add-steps
@@ -86,10 +84,9 @@ add-steps-requires-2 c κs =
     let s = start p in
     let a = above-below p in
     let len = l .before .before .length-of in
-    let most = light-between d (getD (s .args .lowest .now) (p .wire-parent .result) 0) in
-    let product = product-small (len .result - s .args .last) (l .before .wire-factor .result) (omega (arith, len .ensures .1)) (omega arith) in (
+    let most = light-between d (getD (s .args .lowest .now) (p .wire-parent .result) 0) in (
       (omega (arith, a, s .pre .0 .room .weights, d .add-steps .kept .0), omega (arith, a, s .pre .0 .room .layered, d .add-steps .kept .1 .0)),
-      ((omega (arith, l .wire-layer .ensures, s .pre .0 .low), omega (arith, l .wire-layer .ensures, s .pre .0 .high)), omega (arith, most, product, s .pre .0 .small)),
+      ((omega (arith, l .wire-layer .ensures, s .pre .0 .low), omega (arith, l .wire-layer .ensures, s .pre .0 .high)), (omega (arith, len .ensures .1), omega (arith, most, s .pre .0 .small))),
     )
 
 same-length : tie.Need-same-length
