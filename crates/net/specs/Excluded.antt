@@ -1,107 +1,78 @@
--- What the definitions answer on small files: each line excludes the programs that answer otherwise there.
+-- What reading, writing and the stage answer on small files, from their definitions: no program that keeps its promise answers anything else there.
 -- Assumes nothing.
-use Prim.Native.Nat.{ℕ, _+_, _-_}
+use Prim.Native.Nat.{ℕ}
 use mathlib.Core.Path.{_≡_, refl}
 use mathlib.Core.Bool.{true, false}
 use mathlib.Core.List.{List, [], _∷_, _++_, replicate}
 use lib.ListN.{length, drop}
 use Rattle.laws.specs.Bytes.{bytes16, bytes32}
-use Rattle.net.specs.declared.Answer.{Answer}
-use Rattle.net.specs.Layout.{headBytes}
 use Rattle.net.specs.File.{headOf, fileOf, pairsRight, stretch}
 use Rattle.net.specs.Stage.{stageOf}
 use Rattle.net.specs.Refusal.{none, refusal, firstOf, stageRefusal, headRefusal, pairsRefusal, sectionOf, nodesOf, wiresOf, obstaclesOf, sectionsRefusal, nodeRefusal, wireRefusal, obstacleRefusal, netRefusal, readRefusal, answer, readAnswer, writeRefusal, writeAnswer, writeBuffer}
 use Rattle.net.specs.Call.{callRefusal}
 
 -- two nodes, (1, 2) and (1, 9), a wire of layer 2 between them, an obstacle
-abbrev nodes : ℕ → List ℕ
+abbrev pub nodes : ℕ → List ℕ
 nodes flags = 1 ∷ 0 ∷ 2 ∷ 0 ∷ 1 ∷ 1 ∷ 0 ∷ 9 ∷ 0 ∷ flags ∷ []
 
-abbrev wires : List ℕ
+abbrev pub wires : List ℕ
 wires = 0 ∷ 2 ∷ 7 ∷ []
 
-abbrev obstacles : List ℕ
+abbrev pub obstacles : List ℕ
 obstacles = 1 ∷ 0 ∷ 4 ∷ 0 ∷ 1 ∷ 0 ∷ 5 ∷ 0 ∷ []
 
-abbrev file : ℕ → List ℕ
+abbrev pub file : ℕ → List ℕ
 file flags = fileOf (nodes flags) wires obstacles
 
--- flags of 3 are allowed; flags of 4 are 7, and the place is the number of the node
-pub flags-3 : readAnswer (file 3) ≡ record { number = 0; place = 0; count = 2 }
-unfolding pairsRight stretch fileOf headOf firstOf headRefusal pairsRefusal sectionOf sectionsRefusal nodeRefusal wireRefusal obstacleRefusal netRefusal readRefusal answer readAnswer
-flags-3 = refl
+pub record SmallFiles : Type 0 where
+  -- flags of 3 are allowed; flags of 4 are 7, and the place is the number of the node
+  pub flags-3 : readAnswer (file 3) ≡ record { number = 0; place = 0; count = 2 }
+  pub flags-4 : readAnswer (file 4) ≡ record { number = 7; place = 1; count = 0 }
+  -- 4 comes before 6: 257 nodes, and an obstacle of one byte
+  pub four-before-six : sectionsRefusal (replicate 1285 0) [] (0 ∷ []) ≡ refusal 4 0
+  -- ends are added as whole numbers: here each offset would be the end of the section before if 28 + 4294967268 were 0
+  pub sum-wraps :
+      readRefusal (bytes16 1 ++ bytes16 3 ++ bytes32 28 ++ bytes32 4294967268 ++ bytes32 0 ++ bytes32 28 ++ bytes32 28 ++ bytes32 0) ≡ refusal 3 0
+  -- each section is that part of the file, not one byte late nor one byte long
+  pub nodes-part : nodesOf (file 3) ≡ nodes 3
+  pub wires-part : wiresOf (file 3) ≡ wires
+  pub obstacles-part : obstaclesOf (file 3) ≡ obstacles
+  -- after 3 (a byte behind the last section) and after 2 (version 2) it is empty
+  pub empty-after-3 : nodesOf (file 3 ++ 0 ∷ []) ≡ []
+  pub empty-after-2 : nodesOf (bytes16 2 ++ drop 2 (file 3)) ≡ []
+  -- stage 16 is a stage; 0 and 17 are none
+  pub stage-16 : callRefusal 16 (file 3) ≡ none
+  pub stage-0 : callRefusal 0 (file 3) ≡ refusal 1 0
+  pub stage-17 : callRefusal 17 (file 3) ≡ refusal 1 0
+  -- a wire of a layer above the stage is absent
+  pub layer-above : stageOf (nodes 3) wires obstacles 1 .present 1 ≡ false
+  pub layer-of-stage : stageOf (nodes 3) wires obstacles 2 .present 1 ≡ true
+  -- the bytes of a written head
+  pub head-bytes :
+      headOf 1280 765 8 ≡ 1 ∷ 0 ∷ 3 ∷ 0 ∷ 28 ∷ 0 ∷ 0 ∷ 0 ∷ 0 ∷ 5 ∷ 0 ∷ 0 ∷ 28 ∷ 5 ∷ 0 ∷ 0 ∷ 253 ∷ 2 ∷ 0 ∷ 0 ∷ 25 ∷ 8 ∷ 0 ∷ 0 ∷ 8 ∷ 0 ∷ 0 ∷ 0 ∷ []
+  -- with one byte too few lent, writing is 16 with the bytes of the whole file, and the buffer holds what it held
+  pub written-short : (out : List ℕ) → length out ≡ 48 → writeAnswer (nodes 3) wires obstacles (length out) ≡ record { number = 16; place = 49; count = 0 }
+  pub kept-short : (out : List ℕ) → length out ≡ 48 → writeBuffer (nodes 3) wires obstacles out ≡ out
 
-pub flags-4 : readAnswer (file 4) ≡ record { number = 7; place = 1; count = 0 }
-unfolding pairsRight stretch fileOf headOf firstOf headRefusal pairsRefusal sectionOf sectionsRefusal nodeRefusal wireRefusal obstacleRefusal netRefusal readRefusal answer readAnswer
-flags-4 = refl
-
--- 4 comes before 6: 257 nodes, and an obstacle of one byte
-pub four-before-six : sectionsRefusal (replicate 1285 0) [] (0 ∷ []) ≡ refusal 4 0
-unfolding sectionsRefusal
-four-before-six = refl
-
--- ends are added as whole numbers: here each offset would be the end of the section before if 28 + 4294967268 were 0
-pub sum-wraps :
-    readRefusal (bytes16 1 ++ bytes16 3 ++ bytes32 28 ++ bytes32 4294967268 ++ bytes32 0 ++ bytes32 28 ++ bytes32 28 ++ bytes32 0) ≡ refusal 3 0
-unfolding pairsRight headRefusal pairsRefusal readRefusal
-sum-wraps = refl
-
--- each section is that part of the file, not one byte late nor one byte long
-pub nodes-part : nodesOf (file 3) ≡ nodes 3
-unfolding pairsRight stretch fileOf headOf headRefusal pairsRefusal sectionOf
-nodes-part = refl
-
-pub wires-part : wiresOf (file 3) ≡ wires
-unfolding pairsRight stretch fileOf headOf headRefusal pairsRefusal sectionOf
-wires-part = refl
-
-pub obstacles-part : obstaclesOf (file 3) ≡ obstacles
-unfolding pairsRight stretch fileOf headOf headRefusal pairsRefusal sectionOf
-obstacles-part = refl
-
--- after 3 (a byte behind the last section) and after 2 (version 2) each is empty
-pub nothing-after-3 : nodesOf (file 3 ++ 0 ∷ []) ≡ []
-unfolding pairsRight stretch fileOf headOf headRefusal pairsRefusal sectionOf
-nothing-after-3 = refl
-
-pub nothing-after-2 : nodesOf (bytes16 2 ++ drop 2 (file 3)) ≡ []
-unfolding pairsRight stretch fileOf headOf headRefusal pairsRefusal sectionOf
-nothing-after-2 = refl
-
--- stage 16 is a stage; 0 and 17 are none
-pub stage-16 : callRefusal 16 (file 3) ≡ none
-unfolding stageRefusal pairsRight stretch fileOf headOf firstOf headRefusal pairsRefusal sectionOf sectionsRefusal nodeRefusal wireRefusal obstacleRefusal netRefusal readRefusal
-stage-16 = refl
-
-pub stage-0 : callRefusal 0 (file 3) ≡ refusal 1 0
-unfolding stageRefusal
-stage-0 = refl
-
-pub stage-17 : callRefusal 17 (file 3) ≡ refusal 1 0
-unfolding stageRefusal
-stage-17 = refl
-
--- a wire of a layer above the stage is absent
-pub layer-above : stageOf (nodes 3) wires obstacles 1 .present 1 ≡ false
-unfolding stageOf
-layer-above = refl
-
-pub layer-of-stage : stageOf (nodes 3) wires obstacles 2 .present 1 ≡ true
-unfolding stageOf
-layer-of-stage = refl
-
--- the bytes of a written head
-pub head-bytes :
-    headOf 1280 765 8 ≡ 1 ∷ 0 ∷ 3 ∷ 0 ∷ 28 ∷ 0 ∷ 0 ∷ 0 ∷ 0 ∷ 5 ∷ 0 ∷ 0 ∷ 28 ∷ 5 ∷ 0 ∷ 0 ∷ 253 ∷ 2 ∷ 0 ∷ 0 ∷ 25 ∷ 8 ∷ 0 ∷ 0 ∷ 8 ∷ 0 ∷ 0 ∷ 0 ∷ []
-unfolding headOf
-head-bytes = refl
-
--- with one byte too few lent, writing is 16 with the bytes of the whole file, and the buffer holds what it held
-module _ (out : List ℕ) (short : length out ≡ 48) where
-  pub written-short : writeAnswer (nodes 3) wires obstacles (length out) ≡ record { number = 16; place = 49; count = 0 }
-  unfolding firstOf sectionsRefusal nodeRefusal wireRefusal obstacleRefusal netRefusal writeRefusal answer writeAnswer
-  written-short = rw short
-
-  pub kept-short : writeBuffer (nodes 3) wires obstacles out ≡ out
-  unfolding firstOf sectionsRefusal nodeRefusal wireRefusal obstacleRefusal netRefusal writeRefusal writeBuffer
-  kept-short = rw short
+pub small-files : SmallFiles
+unfolding pairsRight stretch fileOf headOf stageOf firstOf stageRefusal headRefusal pairsRefusal sectionOf sectionsRefusal nodeRefusal wireRefusal obstacleRefusal netRefusal readRefusal answer readAnswer writeRefusal writeAnswer writeBuffer
+small-files =
+    record {
+      flags-3 = refl;
+      flags-4 = refl;
+      four-before-six = refl;
+      sum-wraps = refl;
+      nodes-part = refl;
+      wires-part = refl;
+      obstacles-part = refl;
+      empty-after-3 = refl;
+      empty-after-2 = refl;
+      stage-16 = refl;
+      stage-0 = refl;
+      stage-17 = refl;
+      layer-above = refl;
+      layer-of-stage = refl;
+      head-bytes = refl;
+      written-short = λ out short. rw short;
+      kept-short = λ out short. rw short;
+    }

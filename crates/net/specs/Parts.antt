@@ -4,7 +4,7 @@ use Prim.Native.Nat.{ℕ, _+_, _<_, _≤_}
 use mathlib.Core.Path.{_≡_, _∙_, refl}
 use mathlib.Core.List.{List, _++_, append-assoc}
 use native.Mathlib.Omega.{arith}
-use lib.ListN.{length, take, drop, length-take, length-drop, take-append-drop}
+use lib.ListN.{length, take, drop, length-drop, take-append-drop}
 use lib.Seq.{length-take-le, take-add, take-at, drop-at, take-all, drop-drop}
 use Rattle.laws.specs.Bytes.{le32, bytes16, bytes32}
 use Rattle.laws.specs.Numbers.{Bytes, bytes16-here, bytes32-here, le32-bytes32, bytes-take, bytes-drop}

@@ -77,7 +77,7 @@ accepted-writes-back f out b a h =
     let e : fileOf ns ws os ≡ f = read-writes-back f b a in
     let l : length f ≡ fileBytes ns ws os = ap length (sym e) ∙ file-length ns ws os in
     let w = write-done ns ws os (length out) none (length f) (net-none ns ws os (accepted-right f a .net)) refl l h in
-    (sym (answer-done ns ws os (length out) (length f) l w), sym (buffer-done ns ws os out w) ∙ ap (λ p. over p out) e)
+    (sym (answer-done ns ws os (length out) (length f) l w), sym (buffer-done ns ws os out refl w) ∙ ap (λ p. over p out) e)
 
 -- two accepted files with the same sections are the same bytes
 pub one-file : (f g : List ℕ) → Bytes f → Bytes g → Accepted f → Accepted g

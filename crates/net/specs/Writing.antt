@@ -66,6 +66,6 @@ module _ (ns ws os : List ℕ) where
     unfolding writeBuffer
     buffer-refused r q m = rw (← q, m)
 
-    pub buffer-done : none ≡ writeRefusal ns ws os (length out) → over (fileOf ns ws os) out ≡ writeBuffer ns ws os out
+    pub buffer-done : {after : List ℕ} → after ≡ over (fileOf ns ws os) out → none ≡ writeRefusal ns ws os (length out) → after ≡ writeBuffer ns ws os out
     unfolding writeBuffer
-    buffer-done q = rw (← q, file-length)
+    buffer-done e q = rw (← q, e, file-length)

@@ -83,7 +83,7 @@ returns-3 c =
     write-done (a .nodes .now) (a .wires .now) (a .obstacles .now) (length (a .out .now)) (r .result) _ (r .ensures) m refl (c .before .before .before .before .before .before .if2 .left) in (
       c .answered3 .ensures
           ∙ rw (c .before .none .ensures) (answer-done (a .nodes .now) (a .wires .now) (a .obstacles .now) (length (a .out .now)) _ refl w),
-      c .before .before .before .before .write-file .ensures ∙ buffer-done (a .nodes .now) (a .wires .now) (a .obstacles .now) (a .out .now) w,
+      buffer-done (a .nodes .now) (a .wires .now) (a .obstacles .now) (a .out .now) (c .before .before .before .before .write-file .ensures) w,
     )
 
 pub write-spec : {M : Type 1} → statement M
