@@ -1,5 +1,10 @@
 //! What the documents name is there.
 
+#[path = "docs/definitions.rs"]
+mod definitions;
+#[path = "docs/specs.rs"]
+mod specs;
+
 use antenna_tests::root;
 use std::path::{Path, PathBuf};
 
@@ -52,19 +57,23 @@ fn named_files_are_there() {
     assert!(checked > 20);
 }
 
-fn rows_of_trust() -> Vec<Vec<String>> {
-    rows("docs/TRUST.md")
-}
-
-/// The cells of the tables of a document, a row each.
-fn rows(document: &str) -> Vec<Vec<String>> {
+/// The rows of a document's table whose first column has this head, each in its cells.
+fn table(document: &str, head: &str) -> Vec<Vec<String>> {
     let text = std::fs::read_to_string(root().join(document)).unwrap();
-    let rows = text.lines().filter(|line| line.starts_with("| "));
+    let start = format!("| {head} |");
+    let table = text.lines().skip_while(|line| !line.starts_with(&start));
+    let rows = table.skip(2).take_while(|line| line.starts_with('|'));
     let cells = |row: &str| {
         let row = row.trim_matches('|');
         row.split(" | ").map(|cell| cell.trim().into()).collect()
     };
-    rows.map(cells).collect()
+    let rows: Vec<Vec<String>> = rows.map(cells).collect();
+    assert!(!rows.is_empty(), "{document}, {head}");
+    rows
+}
+
+fn table_of_trust(head: &str) -> Vec<Vec<String>> {
+    table("docs/TRUST.md", head)
 }
 
 /// The words in backquotes, each with what stands before it.
@@ -83,29 +92,37 @@ fn declares(file: &Path, name: &str) -> bool {
         .any(|kind| text.contains(&format!("pub {kind}{name} ")))
 }
 
+/// The theorems of a cell, each behind its file: a name is declared in the next file named, whose folder may be that of the file before.
+fn theorems(cell: &str) -> Vec<(String, String)> {
+    let mut found = Vec::new();
+    let mut folder = "";
+    let mut names = Vec::new();
+    for (_, word) in quoted(cell) {
+        if !word.ends_with(".antt") {
+            names.push(word);
+            continue;
+        }
+        let file = match word.rsplit_once('/') {
+            Some((start, _)) => {
+                folder = start;
+                word.to_string()
+            }
+            None => format!("{folder}/{word}"),
+        };
+        found.extend(names.drain(..).map(|name| (file.clone(), name.to_string())));
+    }
+    found
+}
+
 /// A theorem that METHOD.md or TRUST.md names in a file is declared there.
 #[test]
 fn theorems_are_there() {
     let mut checked = 0;
-    let rows = [rows("docs/METHOD.md"), rows_of_trust()].concat();
-    for row in rows.iter().take_while(|row| row[0] != "wrong program") {
-        let mut folder = PathBuf::new();
-        let mut names = Vec::new();
-        for (_, word) in quoted(&row[1]) {
-            if !word.ends_with(".antt") {
-                names.push(word);
-                continue;
-            }
-            let file = if word.contains('/') {
-                root().join(word)
-            } else {
-                folder.join(word)
-            };
-            for name in names.drain(..) {
-                assert!(declares(&file, name), "{name} in {}", file.display());
-                checked += 1;
-            }
-            folder = file.parent().unwrap().into();
+    let method = table("docs/METHOD.md", "in words");
+    for row in [method, table_of_trust("statement")].concat() {
+        for (file, name) in theorems(&row[1]) {
+            assert!(declares(&root().join(&file), &name), "{name} in {file}");
+            checked += 1;
         }
     }
     assert!(checked > 25);
@@ -126,9 +143,7 @@ fn excluded() -> Vec<PathBuf> {
 fn refused_programs() {
     let mut checked = 0;
     let files = excluded();
-    let rows = rows_of_trust();
-    let table = rows.iter().skip_while(|row| row[0] != "wrong program");
-    for row in table.skip(1) {
+    for row in table_of_trust("wrong program") {
         let mut by = "";
         let mut theorems = Vec::new();
         for (before, name) in quoted(&row[1]) {
@@ -155,29 +170,4 @@ fn refused_programs() {
         }
     }
     assert!(checked > 20);
-}
-
-/// The definitions that TRUST.md asks to read are as long as it says.
-#[test]
-fn definitions_are_as_long_as_said() {
-    let mut total = 0;
-    for row in rows_of_trust() {
-        let Ok(said) = row[1].parse::<usize>() else {
-            continue;
-        };
-        let mut folder = PathBuf::new();
-        let mut lines = 0;
-        for (_, word) in quoted(&row[0]) {
-            let file = if word.contains('/') {
-                root().join(word)
-            } else {
-                folder.join(word)
-            };
-            lines += std::fs::read_to_string(&file).unwrap().lines().count();
-            folder = file.parent().unwrap().into();
-        }
-        assert_eq!(lines, said, "{}", row[0]);
-        total += lines;
-    }
-    assert!((600..700).contains(&total), "{total}");
 }
