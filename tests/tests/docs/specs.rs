@@ -87,13 +87,18 @@ fn declared(line: &str) -> &str {
     rest.split_whitespace().next().unwrap()
 }
 
-/// The names of a `use` line, each with its module.
+/// The names of a `use` line, each with its module. Of the repository no line brings a whole module, another name, or an operator.
 fn names_used(line: &str) -> Vec<(String, String)> {
+    let ours = line.starts_with("Rattle·");
     let Some((module, names)) = line.trim_end_matches([';', '}']).split_once(".{") else {
+        assert!(!ours, "{line}");
         return Vec::new();
     };
-    let names = names.split(", ");
-    names.map(|name| (name.into(), module.into())).collect()
+    let names: Vec<&str> = names.split(", ").collect();
+    let plain = names.iter().all(|name| !name.contains([' ', '_']));
+    assert!(plain || !ours, "{line}");
+    let names = names.iter();
+    names.map(|&name| (name.into(), module.into())).collect()
 }
 
 /// `crates/net/specs/Net.antt` for `Rattle.net.specs.Net`. None for a module of the kit, and for a struct of the code.
@@ -204,6 +209,7 @@ impl Specs {
     ) -> Vec<Definition> {
         let mut found = Vec::new();
         for word in words {
+            assert!(!word.contains("Rattle·"), "{word} in {file}");
             let source = self.source(file);
             let home = match (source.at(word), source.used.get(word)) {
                 (Some(_), _) => Some(file.into()),
