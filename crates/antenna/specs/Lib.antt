@@ -1,6 +1,5 @@
 pub mod Exactly
 pub mod Room
 pub mod Excluded
-pub mod Indexed
 pub mod AcceptedCalls
 pub mod Reported

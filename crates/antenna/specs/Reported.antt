@@ -15,6 +15,7 @@ use Rattle.laws.specs.Sum.{χ, sum}
 use Rattle.laws.specs.Sums.{by, sum-ap}
 use Rattle.laws.specs.Bytes.{le16, le32}
 use Rattle.laws.specs.Numbers.{Bytes, le16-bytes16}
+use Rattle.laws.specs.Indexed.{mem-at, at-mem, sorted-at, total-at, record-at}
 use Rattle.net.specs.declared.Answer.{Answer}
 use Rattle.net.specs.Layout.{recordBytes}
 use Rattle.net.specs.Stage.{Stage, stageOf}
@@ -39,7 +40,6 @@ use Rattle.pieces.specs.Reports.{record-length}
 use Rattle.pieces.specs.Named.{named-yes, named-number, named-position}
 use Rattle.reports.specs.Promise.{pieceCount, piecesBuffer, reportAnswer, reportBuffer}
 use Rattle.reports.specs.WeightFits.{weight-fits, weight-field}
-use Rattle.antenna.specs.Indexed.{mem-at, at-mem, sorted-at, total-at, record-at}
 use Rattle.antenna.specs.AcceptedCalls.{report-unmet, report-call, report-right, report-formed, report-inside, report-count}
 
 -- record e of a report: its name, its weight, and bit 2 of its flags

@@ -8,3 +8,4 @@ pub mod Gather
 pub mod Gathers
 pub mod Masks
 pub mod Place
+pub mod Indexed

@@ -16,11 +16,11 @@ use Rattle.net.specs.Stage.{Stage}
 use Rattle.net.specs.Formed.{Formed}
 use Rattle.net.specs.Refusal.{none, met, refusedIf, firstOf}
 use Rattle.net.specs.First.{unmet-if, unmet-l, unmet-r, first-unmet}
-use Rattle.pieces.specs.Piece.{Points}
 use Rattle.pieces.specs.Inside.{Inside}
 use Rattle.pieces.specs.Legal.{Free, size, entryWire, entryPosition, listed, after}
 use Rattle.pieces.specs.Rises.{Rises, by-wire, by-position, after-rises}
 use Rattle.pieces.specs.Size.{AllFree, single, without, one-less, listed-size}
+use Rattle.pieces.specs.LegalByNodes.{free-inside}
 use Rattle.pieces.specs.JumperList.{entryCount, pointRefusal, entryRefusal, listRefusal, setOf}
 
 -- each of n entries may be cut
@@ -132,9 +132,6 @@ all-free s list n free i t h = let r = listed-some list n i t h in at (r .2) (r 
     at : {j p i t : ℕ} → j ≡ i → p ≡ t → Free s j p → Free s i t
     at e f x = rw (← e, ← f) x
 
-pub all-inside : (s : Stage) (J : Points) → AllFree s J → Inside s J
-all-inside s J free i t h = let f = free i t h in (f .low, f .high)
-
 -- an entry more is a point more
 module _ (list : List ℕ) (n : ℕ) (rising : Rising list (suc n)) where
   new-point : (i t : ℕ) → single (entryWire list n) (entryPosition list n) i t ≡ true → listed list n i t ≡ false
@@ -172,7 +169,7 @@ module _ (s : Stage) (list : List ℕ) (r : listRefusal s list ≡ none) where
   list-set-free = all-free s list (entryCount list) (list-free s list r)
 
   pub list-set-inside : Inside s (setOf list)
-  list-set-inside = all-inside s (setOf list) list-set-free
+  list-set-inside = free-inside s (setOf list) list-set-free
 
   pub list-set-size : Formed s → size s (setOf list) ≡ entryCount list
   list-set-size formed = listed-count s formed list (entryCount list) (list-free s list r) (list-rising s list r)

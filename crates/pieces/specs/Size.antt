@@ -7,9 +7,9 @@ use mathlib.Core.List.{List}
 use lib.Dec.{eqb}
 use native.Mathlib.Omega.{arith}
 use native.Mathlib.Nat.{le-trans}
-use borrow.Author.Tests.{eqb-true, eqb-false, ne-eqb, eq-eqb}
+use borrow.Author.Tests.{eqb-true, ne-eqb, eq-eqb}
 use Rattle.laws.specs.Sum.{χ, sum, any}
-use Rattle.laws.specs.Sums.{by, and-left, and-right, and-intro, sum-zero, sum-ap, sum-≤, sum-+, term-≤, χ-no, χ-yes, not-true-false}
+use Rattle.laws.specs.Sums.{by, and-left, and-right, and-intro, sum-zero, sum-ap, sum-≤, sum-+, sum-some, term-≤, χ-no, χ-yes, not-true-false}
 use Rattle.net.specs.Stage.{Stage}
 use Rattle.net.specs.Formed.{Formed}
 use Rattle.pieces.specs.Piece.{Points}
@@ -84,15 +84,6 @@ counted-point s J i t p q h =
     let c = χ-yes 1 h in
     omega arith
 
--- a sum that is not 0 has a term that is not 0
-any-row : (m : ℕ) (f : ℕ → ℕ) → 1 ≤ sum m f → (i : ℕ) × (1 ≤ f i)
-unfolding sum
-any-row zero f h = absurd (native.Mathlib.Nat.lt-irrefl 0 (omega arith))
-any-row (suc m) f h =
-    by (eqb (f m) 0)
-    (λ z. any-row m f (let q = eqb-true (f m) 0 z in omega arith))
-    (λ z. (m, let q = eqb-false (f m) 0 z in omega arith))
-
 module _ (s : Stage) (formed : Formed s) (J : Points) (free : AllFree s J) where
   -- a set of no points is empty
   pub none-empty : size s J ≡ 0 → J ≡ empty
@@ -125,11 +116,11 @@ module _ (s : Stage) (formed : Formed s) (J : Points) (free : AllFree s J) where
   -- a set with points has one
   pub has-point : (n : ℕ) → size s J ≡ suc n → (i : ℕ) × (t : ℕ) × (J i t ≡ true)
   unfolding size
-  has-point n e = go (any-row (s .nodes) (λ j. sum (s .len j) (λ p. χ (J j p) 1)) (omega arith))
+  has-point n e = go (sum-some (s .nodes) (λ j. sum (s .len j) (λ p. χ (J j p) 1)) (omega arith))
     where
-      test : (b : Bool) → 1 ≤ χ b 1 → b ≡ true
+      test : (b : Bool) → 0 < χ b 1 → b ≡ true
       test true h = refl
       test false h = absurd (native.Mathlib.Nat.lt-irrefl 0 (omega arith))
 
-      go : (i : ℕ) × (1 ≤ sum (s .len i) (λ p. χ (J i p) 1)) → (i : ℕ) × (t : ℕ) × (J i t ≡ true)
-      go r = let w = any-row (s .len (r .0)) (λ p. χ (J (r .0) p) 1) (r .1) in (r .0, w .0, test (J (r .0) (w .0)) (w .1))
+      go : (i : ℕ) × (i < s .nodes) × (0 < sum (s .len i) (λ p. χ (J i p) 1)) → (i : ℕ) × (t : ℕ) × (J i t ≡ true)
+      go r = let w = sum-some (s .len (r .0)) (λ p. χ (J (r .0) p) 1) (r .2) in (r .0, w .0, test (J (r .0) (w .0)) (w .2))
