@@ -56,11 +56,11 @@ pub record CountedFrom
   pub ungatedWeight : ℕ → ℕ
   pub counted : Counted c limit (downOf cutAny fewest anyOk anyWeight ungatedOk ungatedWeight count lightest hasUngated ungated near) r
 
--- the points of the clusters below m that hang on none
+-- the points at the nodes below m that are no branch: the lowest node of each component, and nodes inside clusters, which have none
 unfoldable pub rootSum : ℕ → List ℕ → List ℕ → ℕ
 rootSum m lo fewest = sum m (λ r. χ (not (ltb 0 (getD lo r 0))) (getD fewest r 0))
 
--- all clusters are closed and climbed, and points is the sum over those that hang on none, which are the lowest nodes of the components
+-- all clusters are closed and climbed, and points is the sum over the components
 pub record CountedAll
     (n : ℕ) (ns ws os lo hi host fixed gates : List ℕ) (limit : ℕ)
     (cutAny anyOk : List Bool) (anyWeight : List ℕ) (hasUngated : List Bool) (near fewest : List ℕ) (points : ℕ) : Type 0 where

@@ -1,6 +1,6 @@
 // Closing a cluster in the pass down: the fewest points below it, and the weight that they leave.
 // A cluster has two options. The any-option cuts the heaviest branches until the weight is within the limit; it is not there if the fixed weight alone is over the limit.
-// The ungated option cuts every branch that would add a gate, and may then weigh anything; it is not there if the cluster has a gate.
+// The ungated option cuts every branch that cannot come without a gate, and may then weigh anything; it is not there if the cluster has a gate.
 ghost use mathlib.Core.Path.{_≡_};
 ghost use mathlib.Core.Bool.{_||_};
 ghost use Prim.Native.Nat.{_+_, _<_, _≤_, _^_};
@@ -29,7 +29,7 @@ fn hangs(lo: &[u64], host: &[usize], r: usize, j: usize) -> bool
     host[j] == r && 0 < lo[j]
 }
 
-// What the branches of a cluster add up to: the points below them; the least weight that they add; the weight of those that can add no gate, and how many the others are.
+// What the branches of a cluster add up to: the points below them; the least weight that they add; the weight of those that can come without a gate, and how many the others are.
 struct Branches {
     count: u64,
     lightest: u64,
@@ -181,57 +181,57 @@ pub struct Closing {
 }
 
 // The any-option cuts fewer branches, or is the only one.
-fn prefers_any(any: Choice, ungated: Choice, gates: u64) -> bool
-    ensures { λ b. ⌜ b ≡ (ltb 0 gates || ltb (any .cuts) (ungated .cuts)) ⌝ }
+fn prefers_any(any_option: Choice, ungated_option: Choice, gates: u64) -> bool
+    ensures { λ b. ⌜ b ≡ (ltb 0 gates || ltb («any_option» .cuts) («ungated_option» .cuts)) ⌝ }
 {
-    0 < gates || any.cuts < ungated.cuts
+    0 < gates || any_option.cuts < ungated_option.cuts
 }
 
 // The any-option alone reaches the fewest points.
-fn only_any(below: u64, any: Choice) -> Closing
-    requires { ⌜ below + any .cuts < 2 ^ 64 ⌝ }
-    ensures { λ x. ⌜ x ≡ onlyAny (below + any .cuts) (any .weight) ⌝ }
+fn only_any(below: u64, any_option: Choice) -> Closing
+    requires { ⌜ below + «any_option» .cuts < 2 ^ 64 ⌝ }
+    ensures { λ x. ⌜ x ≡ onlyAny (below + «any_option» .cuts) («any_option» .weight) ⌝ }
 {
     Closing {
-        fewest: below + any.cuts,
+        fewest: below + any_option.cuts,
         any_ok: true,
-        any_weight: any.weight,
+        any_weight: any_option.weight,
         ungated_ok: false,
         ungated_weight: 0,
     }
 }
 
 // The ungated option alone reaches the fewest points.
-fn only_ungated(below: u64, ungated: Choice) -> Closing
-    requires { ⌜ below + ungated .cuts < 2 ^ 64 ⌝ }
-    ensures { λ x. ⌜ x ≡ onlyUngated (below + ungated .cuts) (ungated .weight) ⌝ }
+fn only_ungated(below: u64, ungated_option: Choice) -> Closing
+    requires { ⌜ below + «ungated_option» .cuts < 2 ^ 64 ⌝ }
+    ensures { λ x. ⌜ x ≡ onlyUngated (below + «ungated_option» .cuts) («ungated_option» .weight) ⌝ }
 {
     Closing {
-        fewest: below + ungated.cuts,
+        fewest: below + ungated_option.cuts,
         any_ok: false,
-        any_weight: ungated.weight,
+        any_weight: ungated_option.weight,
         ungated_ok: true,
-        ungated_weight: ungated.weight,
+        ungated_weight: ungated_option.weight,
     }
 }
 
 // The options compared by how many branches they cut, where the any-option is there; below is the number of points below the branches.
-fn compare(below: u64, any: Choice, ungated: Choice, gates: u64) -> Closing
-    requires { ⌜ (below + any .cuts < 2 ^ 64) × (below + ungated .cuts < 2 ^ 64) ⌝ }
-    ensures { λ x. ⌜ Compared below (any .cuts) (any .weight) (ungated .cuts) (ungated .weight) gates x ⌝ }
+fn compare(below: u64, any_option: Choice, ungated_option: Choice, gates: u64) -> Closing
+    requires { ⌜ (below + «any_option» .cuts < 2 ^ 64) × (below + «ungated_option» .cuts < 2 ^ 64) ⌝ }
+    ensures { λ x. ⌜ Compared below («any_option» .cuts) («any_option» .weight) («ungated_option» .cuts) («ungated_option» .weight) gates x ⌝ }
 {
-    if prefers_any(any, ungated, gates) {
-        return only_any(below, any);
+    if prefers_any(any_option, ungated_option, gates) {
+        return only_any(below, any_option);
     }
-    if ungated.cuts < any.cuts {
-        return only_ungated(below, ungated);
+    if ungated_option.cuts < any_option.cuts {
+        return only_ungated(below, ungated_option);
     }
     Closing {
-        fewest: below + any.cuts,
+        fewest: below + any_option.cuts,
         any_ok: true,
-        any_weight: any.weight,
+        any_weight: any_option.weight,
         ungated_ok: true,
-        ungated_weight: ungated.weight,
+        ungated_weight: ungated_option.weight,
     }
 }
 
@@ -259,14 +259,14 @@ pub fn close(
     let r = k.lowest;
     let fixed = k.fixed;
     let all = sum_branches(lo, host, count, lightest, has_ungated, ungated, r, n);
-    let without_gate = Choice {
+    let ungated_option = Choice {
         cuts: all.gated,
         weight: fixed + all.ungated,
     };
     if limit < fixed {
-        return only_ungated(all.count, without_gate);
+        return only_ungated(all.count, ungated_option);
     }
-    let within_limit = cut_heaviest(
+    let any_option = cut_heaviest(
         lo,
         host,
         lightest,
@@ -277,5 +277,5 @@ pub fn close(
         all.lightest,
         limit,
     );
-    compare(all.count, within_limit, without_gate, k.gates)
+    compare(all.count, any_option, ungated_option, k.gates)
 }

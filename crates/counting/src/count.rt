@@ -22,7 +22,7 @@ fn clear(cut_any: &mut [bool], n: usize)
     }
 }
 
-// The points found: those below the clusters that hang on none, one for each component.
+// The points found: the sum over the nodes that are no branch. Among these only the lowest node of a component has points.
 fn total_points(lo: &[u64], fewest: &[u64], n: usize) -> u64
     requires { ⌜ (n ≤ length (now lo)) × (n ≤ length (now fewest)) × (rootSum n (now lo) (now fewest) < 2 ^ 64) ⌝ }
     ensures { λ t. ⌜ t ≡ rootSum n (now (lo .entry)) (now (fewest .entry)) ⌝ }

@@ -8,7 +8,7 @@ slice-aggregate-choose-options : tie.Need-slice-aggregate-choose-options
 slice-aggregate-choose-options c = search needs
 
 choose-options-requires : tie.Need-choose-options-requires
-choose-options-requires c κs = search needs
+choose-options-requires c κs = let p = c .before .before .before .before .before .before .before .before .before .before .before .before .pre in (p .0, ((p .1 .0 .1, p .1 .0 .0), p .1 .1))
 
 same-length : tie.Need-same-length
 same-length c = search needs

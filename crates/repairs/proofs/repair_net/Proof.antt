@@ -391,22 +391,21 @@ choose-requires c κs =
     let d = counted e in
     let t = at d in
     let n = fits t in (
+      record {
+        los = omega (arith, lo-is t);
+        his = omega (arith, hi-is t);
+        hosts = omega (arith, host-is t);
+        cuts = omega (arith, cut-any-is d);
+        anys = omega (arith, any-ok-is d);
+        any-weights = omega (arith, any-weight-is d);
+        flags = omega (arith, has-ungated-is d);
+        nears = omega (arith, near-is d);
+      },
       (
-        omega (arith, lo-is t),
-        omega (arith, hi-is t),
-        omega (arith, host-is t),
-        omega (arith, cut-any-is d),
-        omega (arith, any-ok-is d),
-        omega (arith, any-weight-is d),
-        omega (arith, has-ungated-is d),
-        omega (arith, near-is d),
-        n,
-      ),
-      (
+        (n, n),
         subst (λ (m : ℕ). Choosable m (Wires t) (Lo t) (Hi t) (Host t) (AnyWeight d)) (sym (nodes-are t))
             (choosable-of (Nodes t) (Wires t) (Obstacles t) (Stage t) (right (start t)) (Lo t) (Hi t) (Root t) (Host t) (Component t) (Sourced t) (Fixed t) (Gates t) (first t)
             (Limit t) (CutAny d) (AnyOk d) (AnyWeight d) (HasUngated d) (Near d) (Fewest d) (Points d) (worked d)),
-        n,
       ),
     )
 

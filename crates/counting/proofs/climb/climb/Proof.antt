@@ -50,7 +50,7 @@ stretch-weight-requires-2 c κs =
     let b = s .pre .0 in
     let high = open-high (a .nodes .now) (a .wires .now) (a .obstacles .now) (a .i) (a .hi) (b .hi-open) in
     let small = length-small (a .nodes .now) (a .wires .now) (a .i) (λ k. omega (arith, c .before .before .before .before .before .before .before .shared-slice-known .given k)) (b .checked) in
-    ((b .checked .numbered, b .checked .stored), (c .last-within .ensures .before-hi, omega arith))
+    ((b .checked .numbered, b .checked .stored), (omega (arith, b .in-order, c .last-within .ensures .before-hi), omega arith))
 
 add-t16 : tie.Need-add-t16
 add-t16 c = omega (arith, c .before .before .before .before .before .before .before .before .before .before .pre .1 .few)

@@ -24,7 +24,7 @@ returns-2 : tie.Need-returns-2
 returns-2 c =
     let e = c .before .before .before .before in
     let a = e .before .before .args in
-    let n = any-not-preferred (a .gates) (a .any .cuts) (a .ungated .cuts) (sym (e .before .prefers-any .ensures) ∙ e .if1 .left) in
+    let n = any-not-preferred (a .gates) (a .any-option .cuts) (a .ungated-option .cuts) (sym (e .before .prefers-any .ensures) ∙ e .if1 .left) in
     ungated-alone (n .0) (c .before .if2 .taken) (c .only-ungated .ensures)
 
 add-t7 : tie.Need-add-t7
@@ -34,7 +34,7 @@ returns-3 : tie.Need-returns-3
 returns-3 c =
     let e = c .before .before .before .before in
     let a = e .before .before .args in
-    let n = any-not-preferred (a .gates) (a .any .cuts) (a .ungated .cuts) (sym (e .before .prefers-any .ensures) ∙ e .if1 .left) in
+    let n = any-not-preferred (a .gates) (a .any-option .cuts) (a .ungated-option .cuts) (sym (e .before .prefers-any .ensures) ∙ e .if1 .left) in
     equal (n .0) (omega (arith, n .1, c .before .if2 .left)) refl
 
 pub compare-spec : {M : Type 1} → statement M
