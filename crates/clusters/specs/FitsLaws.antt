@@ -25,7 +25,8 @@ use Rattle.clusters.specs.FirstPasses.{Wired, Ends, Filled, made, cuttab
 use Rattle.clusters.specs.Turns.{made-lower, leads-falling}
 use Rattle.clusters.specs.EndsLaws.{checked, present-is}
 use Rattle.points.specs.Geometry.{length-small}
-use Rattle.clusters.specs.Weights.{Bytes, factor-≤}
+use Rattle.laws.specs.Numbers.{Bytes}
+use Rattle.clusters.specs.Weights.{factor-≤}
 
 -- a net that meets none of 4 to 11
 pub wired-of : {ns ws os : List ℕ} → NetRight ns ws os → Wired ns ws

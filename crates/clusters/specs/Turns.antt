@@ -11,6 +11,7 @@ use lib.Seq.{getD-set-same, getD-set-other}
 use lib.Dec.{leb, ltb, eqb}
 use borrow.Author.Tests.{ltb-true, eqb-true, eqb-false, ne-eqb}
 use Rattle.laws.specs.Sum.{χ, sum}
+use Rattle.laws.specs.Lists.{set-add}
 use Rattle.laws.specs.Sums.{by, and-left, χ-≤, sum-zero, sum-bound, any-next, any-none, up}
 use Rattle.net.specs.Net.{nodeCount, nodeFlags, isGate, wireParent, wireLayer}
 use Rattle.clusters.specs.FirstPasses.{Wired, made, cuttable, whole, leader, Leads, Falling, marked, gathered, gateOf}
@@ -72,15 +73,6 @@ module _ (joined : ℕ → Bool) (parent : ℕ → ℕ) where
       (λ n′. let a = rw n′ at (h i p) in omega arith))
 
 -- ---- an array in which numbers are added up
-pub add-at : (l : List ℕ) (a x r : ℕ) → a < length l → getD (set l a (getD l a 0 + x)) r 0 ≡ getD l r 0 + χ (eqb a r) x
-add-at l a x r p =
-    by (eqb a r)
-    (λ y. let s = eqb-true a r y in rw (y, ← s) (getD-set-same l a (getD l a 0 + x) 0 p))
-    (λ n.
-    let d = eqb-false a r n in
-    let e = getD-set-other l a r (getD l a 0 + x) 0 (λ e. d (sym e)) in
-    rw n (omega arith))
-
 pub gathered-more : (i : ℕ) (a : List ℕ) (x : ℕ → ℕ) (r : ℕ) → gathered (i + 1) a x r ≡ gathered i a x r + χ (eqb (getD a i 0) r) (x i)
 unfolding sum
 gathered-more i a x r = rw (add-one i)
@@ -106,7 +98,7 @@ gather-turn i a x l p f h r q =
     let b = f i (omega arith) in
     let m : getD a i 0 < length (set l i 0) = rw length-set (omega arith) in
     let z = gathered-none i i a x (λ j t. f j (omega arith)) (omega arith) in
-    let u = add-at (set l i 0) (getD a i 0) (x i) r m in
+    let u = set-add (set l i 0) (getD a i 0) (x i) m r in
     let v = cleared i (gathered i a x) l p z h r q in
     let w = gathered-more i a x r in
     omega arith

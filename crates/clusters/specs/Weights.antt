@@ -8,22 +8,20 @@ use native.Mathlib.Nat.{mul-le-mul}
 use lib.ListN.{length, getD, set, length-set}
 use lib.Dec.{ltb}
 use borrow.Author.Tests.{ltb-true}
+use Rattle.laws.specs.Lists.{set-add}
+use Rattle.laws.specs.Numbers.{Bytes}
 use Rattle.laws.specs.Sums.{by}
 use Rattle.net.specs.Layout.{wireBytes}
 use Rattle.net.specs.Limits.{lengthBound, factorBound, wireWeightBound}
 use Rattle.net.specs.Net.{nodeCount, wireLength, wireFactor}
 use Rattle.points.specs.Geometry.{length-small}
 use Rattle.clusters.specs.FirstPasses.{Wired, EndsInside, made, cuttable, Falling, gathered, lowerWeight, upperWeight}
-use Rattle.clusters.specs.Turns.{made-positive, gathered-more, gathered-none, gathered-bound, add-at, cleared}
+use Rattle.clusters.specs.Turns.{made-positive, gathered-more, gathered-none, gathered-bound, cleared}
 use Rattle.clusters.specs.EndsLaws.{checked}
 
 -- the most that a wire weighs
 pub product-small : {a b : ℕ} → a ≤ lengthBound → b ≤ factorBound → a * b ≤ wireWeightBound
 product-small p q = mul-le-mul p q
-
--- the list is one of bytes
-abbrev pub Bytes : List ℕ → Type 0
-Bytes l = (j : ℕ) → getD l j 0 < 256
 
 pub length-≤ : {ns ws : List ℕ} → Wired ns ws → Bytes ns → (i : ℕ) → 0 < i → i < nodeCount ns → wireLength ns ws i ≤ lengthBound
 length-≤ {ns} {ws} w bytes i p q = omega (arith, length-small ns ws i bytes (checked w i p q))
@@ -63,7 +61,7 @@ module _ (i : ℕ) (a b : List ℕ) (x y : ℕ → ℕ) (l : List ℕ) (p : i < 
 
   pub after-first : (r : ℕ) → r < i + 1 → getD (set (set l i 0) (getD a i 0) (getD (set l i 0) (getD a i 0) 0 + x i)) r 0 ≡ gathered (i + 1) a x r + gathered i b y r
   after-first r q =
-      let u = add-at (set l i 0) (getD a i 0) (x i) r first-inside in
+      let u = set-add (set l i 0) (getD a i 0) (x i) first-inside r in
       let v = cleared-two r q in
       let w = gathered-more i a x r in
       omega arith
@@ -75,7 +73,7 @@ module _ (i : ℕ) (a b : List ℕ) (x y : ℕ → ℕ) (l : List ℕ) (p : i < 
   after-second r q =
       let m = set (set l i 0) (getD a i 0) (getD (set l i 0) (getD a i 0) 0 + x i) in
       let n : getD b i 0 < length m = rw (length-set, length-set) (omega (arith, fb i (omega arith))) in
-      let u = add-at m (getD b i 0) (y i) r n in
+      let u = set-add m (getD b i 0) (y i) n r in
       let v = after-first r q in
       let w = gathered-more i b y r in
       omega arith

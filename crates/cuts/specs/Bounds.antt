@@ -5,11 +5,11 @@ use Prim.Native.Nat.{ℕ, suc, _+_, _-_, _*_, _≤_, _<_}
 use mathlib.Core.Path.{_≡_, refl, ap}
 use mathlib.Core.Bool.{Bool, true, false, not, _&&_}
 use native.Mathlib.Omega.{arith}
-use native.Mathlib.Nat.{mul-le-mul-left, lt-irrefl, add-mul, mul-comm}
-use lib.Dec.{leb, ltb, eqb}
-use borrow.Author.Tests.{eqb-true, leb-true, le-leb, ltb-true, ltb-false, ne-eqb}
+use native.Mathlib.Nat.{mul-le-mul-left, add-mul, mul-comm}
+use lib.Dec.{leb, eqb}
+use borrow.Author.Tests.{eqb-true, leb-true, le-leb}
 use Rattle.laws.specs.Sum.{χ, sum}
-use Rattle.laws.specs.Sums.{by, no-both, and-left, and-right, and-no-right, χ-≤, χ-yes, χ-no, χ-mono, χ-+, sum-ap, sum-≤, sum-+, sum-zero, sum-swap, sum-pick′, sum-const, down}
+use Rattle.laws.specs.Sums.{by, no-both, and-left, and-right, and-no-right, χ-≤, χ-yes, χ-no, χ-mono, χ-+, sum-ap, sum-≤, sum-+, sum-zero, sum-swap, sum-pick-≤, sum-const, down}
 use Rattle.laws.specs.Tree.{tree, tree-is, joined-rising, roots-flat, tree-≤}
 use Rattle.cuts.specs.Cluster.{Clusters, Sound, hangs, span}
 use Rattle.net.specs.Stage.{Stage}
@@ -240,18 +240,9 @@ total-≤ c limit d s counted =
     omega arith
 
 -- ---- all the weight there is, in a net at a stage
-pick-≤ : (n k x : ℕ) → sum n (λ r. χ (eqb k r) x) ≤ x
-pick-≤ n k x =
-    by (ltb k n)
-    (λ y. let a = sum-pick′ n k (λ r. x) (ltb-true k n y) in omega arith)
-    (λ z.
-    let b = ltb-false k n z in
-    let a = sum-zero n {f = λ r. χ (eqb k r) x} (λ r p. χ-no x (ne-eqb k r (λ e. lt-irrefl r (omega arith)))) in
-    omega arith)
-
--- with tests that do not depend on the place
+-- one place picked, under tests that do not depend on it
 pick-if-≤ : (n k x : ℕ) (t : Bool) → sum n (λ r. χ (t && eqb k r) x) ≤ χ t x
-pick-if-≤ n k x true = pick-≤ n k x
+pick-if-≤ n k x true = sum-pick-≤ n k x
 pick-if-≤ n k x false = let a = sum-zero n {f = λ r. 0} (λ r p. refl) in omega arith
 
 pick-both-≤ : (n k x : ℕ) (t u : Bool) → sum n (λ r. χ (t && (u && eqb k r)) x) ≤ χ (t && u) x

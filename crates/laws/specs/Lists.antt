@@ -1,12 +1,16 @@
 -- Lists as loops write them: what was written at the start of a list, with what was there behind it.
 -- Assumes nothing.
 use Prim.Native.Nat.{ℕ, _+_, _-_, _≤_, _<_}
-use mathlib.Core.Path.{_≡_, _∙_, ap}
+use mathlib.Core.Path.{_≡_, sym, _∙_, ap}
 use mathlib.Core.List.{List, [], _∷_, _++_, append-assoc, append-nil}
 use native.Mathlib.Numerals.{add-one}
 use native.Mathlib.Omega.{arith}
 use lib.ListN.{length, take, drop, set, getD, length-append, length-drop, drop-of-length-le}
-use lib.Seq.{length-take-le, drop-cons, drop-drop, set-at, take-at, drop-at, take-all, take-suc}
+use lib.Dec.{eqb}
+use lib.Seq.{getD-set-same, getD-set-other, length-take-le, drop-cons, drop-drop, set-at, take-at, drop-at, take-all, take-suc}
+use borrow.Author.Tests.{eqb-true, eqb-false}
+use Rattle.laws.specs.Sum.{χ}
+use Rattle.laws.specs.Sums.{by}
 
 -- p, and behind it what l holds there
 abbrev pub over : List ℕ → List ℕ → List ℕ
@@ -53,3 +57,10 @@ pub over-lent : (p q l x y : List ℕ) (at : ℕ) → x ≡ over p l → length 
 over-lent p q l x y at e n h f =
     let k : length x ≡ length l = ap length e ∙ length-over p l (omega arith) in
     rw (f, e) (over-part p q l at (length (over p l) - at) n (omega (arith, length-over p l (omega arith))))
+
+-- a number added to the entry at a place
+pub set-add : (l : List ℕ) (h x : ℕ) → h < length l → (j : ℕ) → getD (set l h (getD l h 0 + x)) j 0 ≡ getD l j 0 + χ (eqb h j) x
+set-add l h x p j =
+    by (eqb h j)
+    (λ y. rw (y, ← eqb-true h j y) (getD-set-same l h (getD l h 0 + x) 0 p))
+    (λ z. rw z (let e = getD-set-other l h j (getD l h 0 + x) 0 (λ e. eqb-false h j z (sym e)) in omega arith))

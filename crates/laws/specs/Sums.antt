@@ -219,6 +219,15 @@ pub sum-pick′ : (n i : ℕ) (f : ℕ → ℕ) → i < n → sum n (λ j. χ (e
 sum-pick′ n i f p =
     sum-one n i (λ j. χ (eqb i j) (f j)) p (λ j lt ne. χ-no (f j) (ne-eqb i j (λ e. ne (sym e)))) ∙ χ-yes (f i) (eq-eqb i i refl)
 
+-- a test that one number passes is passed once at most
+pub sum-pick-≤ : (n i x : ℕ) → sum n (λ j. χ (eqb i j) x) ≤ x
+unfolding sum
+sum-pick-≤ zero i x = omega arith
+sum-pick-≤ (suc n) i x =
+    by (eqb i n)
+    (λ e. let z = sum-zero n {f = λ j. χ (eqb i j) x} (λ j lt. χ-no x (ne-eqb i j (λ w. let q = eqb-true i n e in omega arith))) in rw e (omega arith))
+    (λ e. rw e (let a = sum-pick-≤ n i x in omega arith))
+
 -- over r with a test, what each i adds at place k i
 pub sum-regroup :
     (n : ℕ) (q a : ℕ → Bool) (k x : ℕ → ℕ) →

@@ -10,7 +10,7 @@ use native.Mathlib.Nat.{lt-irrefl}
 use lib.Dec.{ltb, eqb}
 use borrow.Author.Tests.{ltb-true, ltb-false, eq-eqb}
 use Rattle.laws.specs.Sum.{χ, sum}
-use Rattle.laws.specs.Sums.{by, not-true-false, and-left, and-intro, and-no-left, or-left, or-right, χ-no, sum-ap, sum-≤, sum-+, sum-zero, sum-tight, any-yes, any-none, lowest-is, highest-is}
+use Rattle.laws.specs.Sums.{by, not-true-false, and-left, and-intro, and-no-left, or-left, or-right, χ-no, sum-ap, sum-≤, sum-+, sum-zero, sum-tight, any-yes, any-none, lowest-is, highest-is, sum-pick-≤}
 use Rattle.net.specs.Stage.{Stage}
 use Rattle.net.specs.Formed.{Formed}
 use Rattle.pieces.specs.Piece.{Points}
@@ -20,7 +20,7 @@ use Rattle.pieces.specs.Name.{cutAt, firstJumper, lastJumper, joins, fol
 use Rattle.pieces.specs.Weight.{wireAdds, nodeWeight}
 use Rattle.pieces.specs.Jumpers.{uncut-none, first-uncut, last-uncut, first-jumper, last-jumper, first-last, below-first, above-last}
 use Rattle.pieces.specs.LegalByNodes.{free-inside, legal→nodes, nodes→legal}
-use Rattle.pieces.specs.Size.{once, either}
+use Rattle.pieces.specs.Size.{either}
 use Rattle.pieces.specs.SmallestSet.{SmallestSet}
 
 -- the lowest and the highest jumper of each wire
@@ -122,8 +122,8 @@ outer-row s J i =
     {g = λ t. χ (eqb (firstJumper s J i) t) 1 + χ (eqb (lastJumper s J i) t) 1}
     (λ t p. kept (J i t) (eqb (firstJumper s J i) t) (eqb (lastJumper s J i) t)) in
     let b = sum-+ (s .len i) (λ t. χ (eqb (firstJumper s J i) t) 1) (λ t. χ (eqb (lastJumper s J i) t) 1) in
-    let c = once (s .len i) (firstJumper s J i) 1 in
-    let d = once (s .len i) (lastJumper s J i) 1 in
+    let c = sum-pick-≤ (s .len i) (firstJumper s J i) 1 in
+    let d = sum-pick-≤ (s .len i) (lastJumper s J i) 1 in
     omega arith
 
 -- a sum of terms that are at most 2, the first of them 0

@@ -7,29 +7,20 @@ use mathlib.Core.List.{List}
 use lib.Dec.{eqb}
 use native.Mathlib.Omega.{arith}
 use native.Mathlib.Nat.{le-trans}
-use borrow.Author.Tests.{eqb-true, ne-eqb, eq-eqb}
+use borrow.Author.Tests.{eqb-true, eq-eqb}
 use Rattle.laws.specs.Sum.{χ, sum, any}
-use Rattle.laws.specs.Sums.{by, and-left, and-right, and-intro, sum-zero, sum-ap, sum-≤, sum-+, sum-some, term-≤, χ-no, χ-yes, not-true-false}
+use Rattle.laws.specs.Sums.{by, and-left, and-right, and-intro, sum-zero, sum-ap, sum-≤, sum-+, sum-pick-≤, sum-some, term-≤, χ-yes, not-true-false}
 use Rattle.net.specs.Stage.{Stage}
 use Rattle.net.specs.Formed.{Formed}
 use Rattle.pieces.specs.Piece.{Points}
 use Rattle.pieces.specs.Legal.{Free, size, listed, entryWire, entryPosition}
 
--- a test that one number passes is passed once at most
-pub once : (n i x : ℕ) → sum n (λ j. χ (eqb i j) x) ≤ x
-unfolding sum
-once zero i x = omega arith
-once (suc n) i x =
-    by (eqb i n)
-    (λ e. let z = sum-zero n {f = λ j. χ (eqb i j) x} (λ j lt. χ-no x (ne-eqb i j (λ w. let q = eqb-true i n e in omega arith))) in rw e (omega arith))
-    (λ e. rw e (let a = once n i x in omega arith))
-
 -- a point is counted once
 one-point : (s : Stage) (i t : ℕ) → sum (s .nodes) (λ j. sum (s .len j) (λ p. χ (eqb i j && eqb t p) 1)) ≤ 1
-one-point s i t = le-trans (sum-≤ (s .nodes) (λ j lt. row j)) (once (s .nodes) i 1)
+one-point s i t = le-trans (sum-≤ (s .nodes) (λ j lt. row j)) (sum-pick-≤ (s .nodes) i 1)
   where
     row : (j : ℕ) → sum (s .len j) (λ p. χ (eqb i j && eqb t p) 1) ≤ χ (eqb i j) 1
-    row j = by (eqb i j) (λ e. rw e (once (s .len j) t 1)) (λ e. rw e (let z = sum-zero (s .len j) {f = λ p. 0} (λ p lt. refl) in omega arith))
+    row j = by (eqb i j) (λ e. rw e (sum-pick-≤ (s .len j) t 1)) (λ e. rw e (let z = sum-zero (s .len j) {f = λ p. 0} (λ p lt. refl) in omega arith))
 
 pub either : (a b : Bool) → χ (a || b) 1 ≤ χ a 1 + χ b 1
 either true b = omega arith

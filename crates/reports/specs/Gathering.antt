@@ -57,12 +57,6 @@ set-or l h x p j =
     (λ y. rw (y, ← eqb-true h j y) (getD-set-same l h (bitOr (getD l h 0) x) 0 p))
     (λ z. rw (z, or-zero-r (getD l j 0)) (getD-set-other l h j (bitOr (getD l h 0) x) 0 (λ e. eqb-false h j z (sym e))))
 
-pub set-add : (l : List ℕ) (h x : ℕ) → h < length l → (j : ℕ) → getD (set l h (getD l h 0 + x)) j 0 ≡ getD l j 0 + χ (eqb h j) x
-set-add l h x p j =
-    by (eqb h j)
-    (λ y. rw (y, ← eqb-true h j y) (getD-set-same l h (getD l h 0 + x) 0 p))
-    (λ z. rw z (let e = getD-set-other l h j (getD l h 0 + x) 0 (λ e. eqb-false h j z (sym e)) in omega arith))
-
 -- ---- masks joined under a test
 or-test : (n : ℕ) (f : ℕ → Bool) (t : Bool) (g : ℕ → Bool) → bitOr (mask n f) (χ t (mask n g)) ≡ mask n (λ b. f b || (t && g b))
 or-test n f t g = ap (bitOr (mask n f)) (sym (mask-test n t g)) ∙ mask-or n f (λ b. t && g b)

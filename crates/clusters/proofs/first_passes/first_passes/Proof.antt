@@ -10,7 +10,7 @@ use Rattle.net.specs.Net.{nodeCount, wireParent}
 use Rattle.clusters.specs.FirstPasses.{EndsInside, Falling, Filled, made, whole}
 use Rattle.clusters.specs.Turns.{made-lower, whole-lower, leads-falling}
 use Rattle.clusters.specs.EndsLaws.{inside-of, first-none}
-use Rattle.clusters.specs.Weights.{Bytes}
+use Rattle.laws.specs.Numbers.{Bytes}
 use Rattle.clusters.specs.FitsLaws.{hosts-falling, fits-of, light-of, short-of}
 use Rattle.clusters.proofs.first_passes.first_passes.Statement.{statement}
 use Rattle.clusters.proofs.first_passes.first_passes.Tie as tie

@@ -9,7 +9,8 @@ use borrow.Author.Needs.{needs}
 use Rattle.net.specs.Layout.{mostNodes}
 use Rattle.net.specs.Limits.{wireWeightBound}
 use Rattle.clusters.specs.FirstPasses.{Falling, gathered, lowerWeight, upperWeight}
-use Rattle.clusters.specs.Weights.{Bytes, lower-small, upper-small, after-second, before-first, before-second}
+use Rattle.laws.specs.Numbers.{Bytes}
+use Rattle.clusters.specs.Weights.{lower-small, upper-small, after-second, before-first, before-second}
 use Rattle.clusters.proofs.weights.weigh_clusters.Statement.{statement}
 use Rattle.clusters.proofs.weights.weigh_clusters.Tie as tie
 

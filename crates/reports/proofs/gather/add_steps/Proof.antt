@@ -13,7 +13,8 @@ use borrow.Author.Needs.{needs}
 use Rattle.laws.specs.Sums.{and-no-right, and-true}
 use Rattle.net.specs.Limits.{wireWeightBound}
 use Rattle.reports.specs.ListRights.{product-small}
-use Rattle.reports.specs.Gathering.{set-or, set-add}
+use Rattle.laws.specs.Lists.{set-add}
+use Rattle.reports.specs.Gathering.{set-or}
 use Rattle.reports.proofs.gather.add_steps.Statement.{statement}
 use Rattle.reports.proofs.gather.add_steps.Tie as tie
 
