@@ -46,7 +46,7 @@ pub record Choosable (n : ℕ) (ws lo hi host anyWeight : List ℕ) : Type 0 whe
   pub light : (r : ℕ) → r < n → getD anyWeight r 0 < weightBound
 
 -- the work arrays of the passes before have an entry for every node below n
-pub record Lengths (n : ℕ) (lo hi host : List ℕ) (cutAny anyOk : List Bool) (anyWeight : List ℕ) (hasUngated : List Bool) (near : List ℕ) : Type 0 where
+pub record ChoiceLengths (n : ℕ) (lo hi host : List ℕ) (cutAny anyOk : List Bool) (anyWeight : List ℕ) (hasUngated : List Bool) (near : List ℕ) : Type 0 where
   pub los : n ≤ length lo
   pub his : n ≤ length hi
   pub hosts : n ≤ length host

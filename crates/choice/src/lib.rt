@@ -10,7 +10,7 @@ ghost use lib.Dec.{leb};
 ghost use Rattle.net.specs.Layout.{mostNodes, wireBytes};
 ghost use Rattle.net.specs.Limits.{lengthBound, weightBound};
 ghost use Rattle.clusters.specs.Stretch.{stretchWeight};
-ghost use Rattle.choice.specs.Choose.{Lengths, Chooses, Choosable};
+ghost use Rattle.choice.specs.Choose.{ChoiceLengths, Chooses, Choosable};
 
 // A branch is cut at its highest cuttable point: its host takes the any-option, which cuts it, or the ungated one, and it can add nothing without a gate.
 fn is_cut_high(host_any: bool, cut_any: bool, has_ungated: bool) -> bool
@@ -72,7 +72,7 @@ fn choose_options(
     any_mode: &mut [bool],
     cut_high: &mut [bool],
 )
-    requires { ⌜ Lengths n (now lo) (now hi) (now host) (now «cut_any») (now «any_ok») (now «any_weight») (now «has_ungated») (now near) ⌝ }
+    requires { ⌜ ChoiceLengths n (now lo) (now hi) (now host) (now «cut_any») (now «any_ok») (now «any_weight») (now «has_ungated») (now near) ⌝ }
     requires { ⌜ (n ≤ length (now «any_mode»)) × (n ≤ length (now «cut_high»)) ⌝ }
     requires { ⌜ Choosable n (now wires) (now lo) (now hi) (now host) (now «any_weight») ⌝ }
     ensures { λ _. ⌜ ((r : ℕ) → r < n → Chooses (now (wires .entry)) (now (lo .entry)) (now (hi .entry)) (now (host .entry)) (now («cut_any» .entry)) (now («any_ok» .entry)) (now («any_weight» .entry)) (now («has_ungated» .entry)) (now (near .entry)) limit (now («any_mode» .exit)) (now («cut_high» .exit)) r) ⌝ }
@@ -109,7 +109,7 @@ pub fn choose(
     limit: u64,
     cut_high: &mut [bool],
 )
-    requires { ⌜ Lengths n (now lo) (now hi) (now host) (now «cut_any») (now «any_ok») (now «any_weight») (now «has_ungated») (now near) ⌝ }
+    requires { ⌜ ChoiceLengths n (now lo) (now hi) (now host) (now «cut_any») (now «any_ok») (now «any_weight») (now «has_ungated») (now near) ⌝ }
     requires { ⌜ (n ≤ length (now «cut_high»)) × (n ≤ mostNodes) ⌝ }
     requires { ⌜ Choosable n (now wires) (now lo) (now hi) (now host) (now «any_weight») ⌝ }
     ensures { λ _. ⌜ ((anyMode : List Bool) × ((r : ℕ) → r < n → Chooses (now (wires .entry)) (now (lo .entry)) (now (hi .entry)) (now (host .entry)) (now («cut_any» .entry)) (now («any_ok» .entry)) (now («any_weight» .entry)) (now («has_ungated» .entry)) (now (near .entry)) limit anyMode (now («cut_high» .exit)) r)) ⌝ }

@@ -9,7 +9,7 @@ use native.Mathlib.Omega.{arith}
 use lib.ListN.{getD}
 use lib.Dec.{ltb, eqb}
 use borrow.Author.Tests.{ltb-true, ltb-false, eqb-true, eqb-false}
-use Rattle.laws.specs.Sum.{χ, sum}
+use Rattle.laws.specs.Sum.{χ}
 use Rattle.laws.specs.Sums.{by, no-both, and-left, and-right, χ-yes, χ-no, χ-≤, sum-zero, sum-bound, sum-next, sum-next-≤}
 use Rattle.counting.specs.Close.{hung, HungAbove, branchSum, flaggedCount, flaggedSum, clearCount, heavierThan, Heaviest}
 

@@ -1,12 +1,12 @@
 -- A turn of the pass down over the work arrays: what its calls require, and that what they establish is a turn.
 -- Assumes nothing.
-use Prim.Native.Nat.{ℕ, _+_, _≤_, _<_}
+use Prim.Native.Nat.{ℕ, _+_, _<_}
 use mathlib.Core.Path.{_≡_, refl, _∙_}
 use mathlib.Core.Logic.{_≢_}
 use mathlib.Core.Bool.{Bool, true, false, cond}
 use mathlib.Core.List.{List}
 use native.Mathlib.Omega.{arith}
-use lib.ListN.{length, getD, set}
+use lib.ListN.{getD, set}
 use lib.Seq.{getD-set-same, getD-set-other}
 use lib.Dec.{eqb, ltb}
 use borrow.Author.Tests.{eqb-true, eq-eqb, ne-eqb, ltb-true, ltb-false, lt-ltb}
@@ -17,7 +17,7 @@ use Rattle.clusters.specs.Arrays.{downOf}
 use Rattle.counting.specs.declared.close.Cluster.{Cluster}
 use Rattle.counting.specs.declared.close.Closing.{Closing}
 use Rattle.counting.specs.declared.climb.Climbing.{Climbing}
-use Rattle.counting.specs.Lengths.{BranchArrays, Lengths}
+use Rattle.counting.specs.Lengths.{BranchArrays, CountLengths}
 use Rattle.counting.specs.Close.{hung, HungAbove, NoneCut, branchSum, flaggedSum, Room, Closes, branchesOf, closingOf}
 use Rattle.counting.specs.Climb.{Branch, ClimbsAt, wireOf, climbingOf}
 use Rattle.counting.specs.Count.{workClusters, Ready, Unmarked, CountedFrom}
@@ -104,7 +104,7 @@ module _ (n : ℕ) (ns ws os lo hi host fixed gates : List ℕ) (ready : Ready n
       (cutAny₀ cutAny anyOk₀ : List Bool) (anyWeight₀ : List ℕ) (hasUngated₀ : List Bool) (near₀ fewest₀ count₀ lightest₀ ungated₀ : List ℕ) (x : Closing) (y : Climbing)
       (closes : Closes n lo host count₀ lightest₀ hasUngated₀ ungated₀ cutAny₀ cutAny (clusterAt fixed gates r) limit x)
       (climbs : ClimbsAt ns ws os r (getD lo r 0) (getD hi r 0) limit x y)
-      (lengths : Lengths n lo hi host fixed gates cutAny₀ anyOk₀ anyWeight₀ hasUngated₀ near₀ fewest₀)
+      (lengths : CountLengths n lo hi host fixed gates cutAny₀ anyOk₀ anyWeight₀ hasUngated₀ near₀ fewest₀)
       (branches : BranchArrays n count₀ lightest₀ hasUngated₀ ungated₀)
       (k : CountedFrom (workClusters n ns ws os lo hi host fixed gates) limit cutAny₀ fewest₀ anyOk₀ anyWeight₀ count₀ lightest₀ hasUngated₀ ungated₀ near₀ (r + 1)) where
     old : Down

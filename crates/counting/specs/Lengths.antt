@@ -18,7 +18,7 @@ pub record BranchArrays (n : ℕ) (count lightest : List ℕ) (hasUngated : List
   pub weights : n ≤ length ungated
 
 -- what is lent to the pass down
-pub record Lengths
+pub record CountLengths
     (n : ℕ) (lo hi host fixed gates : List ℕ) (cutAny anyOk : List Bool) (anyWeight : List ℕ) (hasUngated : List Bool) (near fewest : List ℕ) : Type 0 where
   pub hanging : Hanging n lo host
   pub his : n ≤ length hi

@@ -7,7 +7,7 @@ ghost use mathlib.Core.Path.{_≡_};
 ghost use mathlib.Core.Bool.{false};
 ghost use Prim.Native.Nat.{ℕ, _<_, _≤_, _^_};
 ghost use lib.ListN.{length, getD};
-ghost use Rattle.counting.specs.Lengths.{BranchArrays, Lengths};
+ghost use Rattle.counting.specs.Lengths.{BranchArrays, CountLengths};
 ghost use Rattle.counting.specs.Count.{workClusters, Ready, NoneHopeless, CountedFrom, CountedAll, rootSum};
 
 // No branch below n is marked.
@@ -61,7 +61,7 @@ fn count_clusters(
     limit: u64,
 )
     requires { ⌜ Ready n (now nodes) (now wires) (now obstacles) (now lo) (now hi) (now host) (now fixed) (now gates) ⌝ }
-    requires { ⌜ Lengths n (now lo) (now hi) (now host) (now fixed) (now gates) (now «cut_any») (now «any_ok») (now «any_weight») (now «has_ungated») (now near) (now fewest) ⌝ }
+    requires { ⌜ CountLengths n (now lo) (now hi) (now host) (now fixed) (now gates) (now «cut_any») (now «any_ok») (now «any_weight») (now «has_ungated») (now near) (now fewest) ⌝ }
     requires { ⌜ BranchArrays n (now count) (now lightest) (now «has_ungated») (now ungated) ⌝ }
     requires { ⌜ NoneHopeless n (now fixed) (now gates) limit ⌝ }
     requires { ⌜ ((j : ℕ) → j < n → getD (now «cut_any») j false ≡ false) ⌝ }
@@ -121,7 +121,7 @@ pub fn count_pass(
     limit: u64,
 ) -> u64
     requires { ⌜ Ready n (now nodes) (now wires) (now obstacles) (now lo) (now hi) (now host) (now fixed) (now gates) ⌝ }
-    requires { ⌜ Lengths n (now lo) (now hi) (now host) (now fixed) (now gates) (now «cut_any») (now «any_ok») (now «any_weight») (now «has_ungated») (now near) (now fewest) ⌝ }
+    requires { ⌜ CountLengths n (now lo) (now hi) (now host) (now fixed) (now gates) (now «cut_any») (now «any_ok») (now «any_weight») (now «has_ungated») (now near) (now fewest) ⌝ }
     requires { ⌜ NoneHopeless n (now fixed) (now gates) limit ⌝ }
     ensures { λ points. ⌜ CountedAll n (now (nodes .entry)) (now (wires .entry)) (now (obstacles .entry)) (now (lo .entry)) (now (hi .entry)) (now (host .entry)) (now (fixed .entry)) (now (gates .entry)) limit
         (now («cut_any» .exit)) (now («any_ok» .exit)) (now («any_weight» .exit)) (now («has_ungated» .exit)) (now (near .exit)) (now (fewest .exit)) points ⌝ }

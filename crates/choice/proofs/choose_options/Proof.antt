@@ -3,11 +3,10 @@
 use Prim.Native.Nat.{ℕ, _+_, _-_, _≤_, _<_}
 use mathlib.Core.Path.{_≡_, refl, _∙_}
 use mathlib.Core.Logic.{⊎-elim}
-use mathlib.Core.Bool.{Bool}
 use native.Mathlib.Omega.{arith}
 use lib.ListN.{length, getD, length-set}
 use denote.Ref.{now}
-use Rattle.choice.specs.Choose.{Lengths, Chooses, cutHere, anyHere}
+use Rattle.choice.specs.Choose.{ChoiceLengths, Chooses, cutHere, anyHere}
 use Rattle.choice.specs.ChooseLaws.{cutHere-root, anyHere-root, cutHere-branch, anyHere-branch, chooses-more}
 use borrow.Author.Needs.{needs}
 use Rattle.choice.proofs.choose_options.Statement.{statement}
@@ -26,7 +25,7 @@ start c = c .before .before .before .before .before .before .before .before .bef
 
 -- the arrays reach beyond r
 long : (c : tie.In-loop Inv-loop μ-loop) →
-    Lengths (c .before .loop .r + 1) (now (start (c .before) .args .lo)) (now (start (c .before) .args .hi)) (now (start (c .before) .args .host)) (now (start (c .before) .args .cut-any))
+    ChoiceLengths (c .before .loop .r + 1) (now (start (c .before) .args .lo)) (now (start (c .before) .args .hi)) (now (start (c .before) .args .host)) (now (start (c .before) .args .cut-any))
     (now (start (c .before) .args .any-ok)) (now (start (c .before) .args .any-weight)) (now (start (c .before) .args .has-ungated)) (now (start (c .before) .args .near))
 long c =
     let p = start (c .before) .pre .0 in

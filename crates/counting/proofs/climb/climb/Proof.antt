@@ -1,6 +1,5 @@
 -- `counting::climb::climb` meets its contract: each return is an ending of `Climbed`.
 -- Assumes nothing.
-use mathlib.Core.Path.{refl}
 use native.Mathlib.Omega.{arith}
 use Rattle.points.specs.Geometry.{length-small}
 use Rattle.counting.specs.ClimbLaws.{open-high, climbs-light, climbs-ungated, climbs-within, climbs-jumper}

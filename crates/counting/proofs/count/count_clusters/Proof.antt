@@ -3,8 +3,8 @@
 use Prim.Native.Nat.{_≤_, _<_, _-_, _+_}
 use mathlib.Core.Path.{_≡_, refl, _∙_}
 use native.Mathlib.Omega.{arith}
-use lib.ListN.{getD, length-set}
-use Rattle.counting.specs.Lengths.{Lengths, BranchArrays}
+use lib.ListN.{length-set}
+use Rattle.counting.specs.Lengths.{CountLengths, BranchArrays}
 use Rattle.counting.specs.Close.{Room}
 use Rattle.counting.specs.Count.{workClusters, Unmarked, CountedFrom, Kept}
 use Rattle.counting.specs.CountStep.{closable}
@@ -44,7 +44,7 @@ one-less : (c : tie.In-loop Inv-loop μ-loop) → c .before .loop .r - 1 + 1 ≡
 one-less c = omega (arith, c .loop-test .taken)
 
 lengths : (c : tie.At-loop Inv-loop μ-loop) →
-    Lengths (start c .args .n) (start c .args .lo .now) (start c .args .hi .now) (start c .args .host .now) (start c .args .fixed .now) (start c .args .gates .now)
+    CountLengths (start c .args .n) (start c .args .lo .now) (start c .args .hi .now) (start c .args .host .now) (start c .args .fixed .now) (start c .args .gates .now)
     (c .loop .cut-any) (c .loop .any-ok) (c .loop .any-weight) (c .loop .has-ungated) (c .loop .near) (c .loop .fewest)
 lengths c =
     let p = start c .pre .1 .0 in

@@ -1,8 +1,5 @@
 -- `counting::count::count_pass` meets its contract: its own arrays are long enough, and the marks are cleared.
 -- Assumes nothing.
-use Prim.Native.Nat.{ℕ}
-use mathlib.Core.Bool.{Bool}
-use mathlib.Core.List.{List}
 use native.Mathlib.Omega.{arith}
 use borrow.Author.Needs.{needs}
 use Rattle.counting.specs.CountTotal.{roots-few}
