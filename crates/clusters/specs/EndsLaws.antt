@@ -15,8 +15,8 @@ use Rattle.net.specs.Stage.{stageOf}
 use Rattle.points.specs.Cuttable.{Checked, Lowest, Highest}
 use Rattle.cuts.specs.Fits.{freeAt}
 use Rattle.cuts.specs.BridgeFits.{free-of, of-free}
-use Rattle.clusters.specs.FirstPasses.{Wired, LowestFree, HighestFree, Ends, EndsInside, made}
-use Rattle.clusters.specs.Turns.{made-positive}
+use Rattle.clusters.specs.FirstPasses.{Wired, LowestFree, HighestFree, Ends, EndsInside, isPresent}
+use Rattle.clusters.specs.Turns.{isPresent-positive}
 
 pub checked : {ns ws : List ℕ} → Wired ns ws → (i : ℕ) → 0 < i → i < nodeCount ns → Checked ns ws i
 checked w i p q =
@@ -29,16 +29,16 @@ checked w i p q =
     }
 
 module _ (ns ws os : List ℕ) (k : ℕ) where
-  pub present-is : (i : ℕ) → i < nodeCount ns → stageOf ns ws os k .present i ≡ made ws k i
+  pub present-is : (i : ℕ) → i < nodeCount ns → stageOf ns ws os k .present i ≡ isPresent ws k i
   unfolding stageOf
   present-is i p = rw (lt-ltb i (nodeCount ns) p)
 
   module _ (i : ℕ) (p : i < nodeCount ns) where
     -- a wire that is absent has no such point
-    not-absent : made ws k i ≡ false → (t : ℕ) → freeAt (stageOf ns ws os k) i t ≡ true → ⊥
+    not-absent : isPresent ws k i ≡ false → (t : ℕ) → freeAt (stageOf ns ws os k) i t ≡ true → ⊥
     not-absent m t f = no-both (free-of (stageOf ns ws os k) i t f .present) (present-is i p ∙ m)
 
-    pub lowest-absent : made ws k i ≡ false → LowestFree (stageOf ns ws os k) i 0
+    pub lowest-absent : isPresent ws k i ≡ false → LowestFree (stageOf ns ws os k) i 0
     lowest-absent m =
         record {
           free = λ h. absurd (lt-irrefl 0 h);
@@ -46,13 +46,13 @@ module _ (ns ws os : List ℕ) (k : ℕ) where
           least = λ t f. omega arith;
         }
 
-    pub highest-absent : made ws k i ≡ false → HighestFree (stageOf ns ws os k) i 0
+    pub highest-absent : isPresent ws k i ≡ false → HighestFree (stageOf ns ws os k) i 0
     highest-absent m = record { free = λ h. absurd (lt-irrefl 0 h); most = λ t f. absurd (not-absent m t f) }
 
-    module _ (m : made ws k i ≡ true) where
-      pub lowest-made : (r : ℕ) → Lowest (barred ns ws os i) 1 (wireLength ns ws i) r → LowestFree (stageOf ns ws os k) i r
+    module _ (m : isPresent ws k i ≡ true) where
+      pub lowest-present : (r : ℕ) → Lowest (barred ns ws os i) 1 (wireLength ns ws i) r → LowestFree (stageOf ns ws os k) i r
       unfolding stageOf
-      lowest-made r l =
+      lowest-present r l =
           record {
             free = λ h.
                 of-free (stageOf ns ws os k) i r (record {
@@ -73,9 +73,9 @@ module _ (ns ws os : List ℕ) (k : ℕ) where
                 (λ n. ltb-false t r n);
           }
 
-      pub highest-made : (r : ℕ) → 0 < wireLength ns ws i → Highest (barred ns ws os i) (wireLength ns ws i - 1) r → HighestFree (stageOf ns ws os k) i r
+      pub highest-present : (r : ℕ) → 0 < wireLength ns ws i → Highest (barred ns ws os i) (wireLength ns ws i - 1) r → HighestFree (stageOf ns ws os k) i r
       unfolding stageOf
-      highest-made r pos l =
+      highest-present r pos l =
           record {
             free = λ h.
                 of-free (stageOf ns ws os k) i r (record {
@@ -108,7 +108,7 @@ module _ (ns ws os : List ℕ) (k : ℕ) where
     inside-of =
         record {
           wire = λ i p h.
-              made-positive ws k i (sym (present-is i p) ∙ free-of (stageOf ns ws os k) i (getD lo i 0) (e .low i p .free h) .present);
+              isPresent-positive ws k i (sym (present-is i p) ∙ free-of (stageOf ns ws os k) i (getD lo i 0) (e .low i p .free h) .present);
           low = λ i p h. let g = free-of (stageOf ns ws os k) i (getD lo i 0) (e .low i p .free h) .high in omega arith;
           high = λ i p h.
               let most = e .high i p .most (getD lo i 0) (e .low i p .free h) in

@@ -47,8 +47,8 @@ pub record EndsInside (ns ws lo hi : List ℕ) : Type 0 where
   pub high : (i : ℕ) → i < nodeCount ns → 0 < getD lo i 0 → getD hi i 0 ≤ wireLength ns ws i
 
 -- wire i is present at stage k
-abbrev pub made : List ℕ → ℕ → ℕ → Bool
-made ws k i = ltb 0 i && leb (wireLayer ws i) k
+abbrev pub isPresent : List ℕ → ℕ → ℕ → Bool
+isPresent ws k i = ltb 0 i && leb (wireLayer ws i) k
 
 -- wire i has a point that may be cut: its lowest one is above 0
 abbrev pub cuttable : List ℕ → ℕ → Bool
@@ -56,7 +56,7 @@ cuttable lo i = ltb 0 (getD lo i 0)
 
 -- wire i is present and cannot be cut
 abbrev pub whole : List ℕ → ℕ → List ℕ → ℕ → Bool
-whole ws k lo i = made ws k i && not (cuttable lo i)
+whole ws k lo i = isPresent ws k i && not (cuttable lo i)
 
 -- the node that node i leads to: where its parent leads if the wire joins them, else i itself
 abbrev pub leader : (ℕ → Bool) → (ℕ → ℕ) → List ℕ → ℕ → ℕ
@@ -88,7 +88,7 @@ gateOf ns component sourced i = χ (isGate (nodeFlags ns i) && not (getD sourced
 
 -- what wire i gives to the cluster at its lower end: all of it, or up to its lowest point that may be cut
 abbrev pub lowerWeight : List ℕ → List ℕ → ℕ → List ℕ → ℕ → ℕ
-lowerWeight ns ws k lo i = χ (made ws k i) (cond (cuttable lo i) (getD lo i 0) (wireLength ns ws i) * wireFactor ws i)
+lowerWeight ns ws k lo i = χ (isPresent ws k i) (cond (cuttable lo i) (getD lo i 0) (wireLength ns ws i) * wireFactor ws i)
 
 -- and to the cluster at its upper end: from its highest point that may be cut on
 abbrev pub upperWeight : List ℕ → List ℕ → List ℕ → List ℕ → ℕ → ℕ
@@ -99,7 +99,7 @@ abbrev pub gathered : ℕ → List ℕ → (ℕ → ℕ) → ℕ → ℕ
 gathered n a x r = sum n (λ i. χ (eqb (getD a i 0) r) (x i))
 
 -- the work arrays have an entry for each of n nodes
-pub record Lengths (n : ℕ) (lo hi root host component : List ℕ) (sourced : List Bool) (fixed gates : List ℕ) : Type 0 where
+pub record FirstLengths (n : ℕ) (lo hi root host component : List ℕ) (sourced : List Bool) (fixed gates : List ℕ) : Type 0 where
   pub los : n ≤ length lo
   pub his : n ≤ length hi
   pub roots : n ≤ length root
@@ -114,7 +114,7 @@ pub record Filled (ns ws os : List ℕ) (k : ℕ) (lo hi root host component : L
   pub ends : Ends (stageOf ns ws os k) lo hi
   pub roots : Leads (nodeCount ns) (whole ws k lo) (wireParent ws) root
   pub hosts : (i : ℕ) → i < nodeCount ns → getD host i 0 ≡ hostOf ws lo root i
-  pub components : Leads (nodeCount ns) (made ws k) (wireParent ws) component
+  pub components : Leads (nodeCount ns) (isPresent ws k) (wireParent ws) component
   pub sources : (c : ℕ) → c < nodeCount ns → getD sourced c false ≡ sourceIn ns component (nodeCount ns) c
   pub gated : (r : ℕ) → r < nodeCount ns → getD gates r 0 ≡ gathered (nodeCount ns) root (gateOf ns component sourced) r
   pub weighed : (r : ℕ) → r < nodeCount ns → getD fixed r 0 ≡ gathered (nodeCount ns) root (lowerWeight ns ws k lo) r + gathered (nodeCount ns) host (upperWeight ns ws lo hi) r

@@ -21,8 +21,8 @@ use Rattle.cuts.specs.Fits.{Fits, fixedPart, liveGate, sourced}
 use Rattle.cuts.specs.Bounds.{allWeight, allWeight-≤}
 use Rattle.cuts.specs.BridgeFits.{free-of}
 use Rattle.clusters.specs.Arrays.{clustersOf}
-use Rattle.clusters.specs.FirstPasses.{Wired, Ends, Filled, made, cuttable, whole, Falling, hostOf, sourceIn, gateOf, lowerWeight, upperWeight}
-use Rattle.clusters.specs.Turns.{made-lower, leads-falling}
+use Rattle.clusters.specs.FirstPasses.{Wired, Ends, Filled, isPresent, cuttable, whole, Falling, hostOf, sourceIn, gateOf, lowerWeight, upperWeight}
+use Rattle.clusters.specs.Turns.{isPresent-lower, leads-falling}
 use Rattle.clusters.specs.EndsLaws.{checked, present-is}
 use Rattle.points.specs.Geometry.{length-small}
 use Rattle.laws.specs.Numbers.{Bytes}
@@ -79,13 +79,13 @@ whole-parts false false f false a l u = omega arith
 
 module _ (ns ws os : List ℕ) (k : ℕ) (w : Wired ns ws) (lo hi root host component : List ℕ) (marks : List Bool) (fixed gates : List ℕ) (s : Filled ns ws os k lo hi root host component marks fixed gates) where
   -- a wire that can be cut is present, and its node leads its cluster
-  cuttable-made : (i : ℕ) → i < nodeCount ns → cuttable lo i ≡ true → made ws k i ≡ true
+  cuttable-isPresent : (i : ℕ) → i < nodeCount ns → cuttable lo i ≡ true → isPresent ws k i ≡ true
   unfolding stageOf
-  cuttable-made i p y =
+  cuttable-isPresent i p y =
       sym (present-is ns ws os k i p) ∙ free-of (stageOf ns ws os k) i (getD lo i 0) (s .ends .low i p .free (ltb-true 0 (getD lo i 0) y)) .present
 
   cuttable-leads : (i : ℕ) → i < nodeCount ns → cuttable lo i ≡ true → getD root i 0 ≡ i
-  cuttable-leads i p y = rw (and-no-right (made ws k i) {b = not (cuttable lo i)} (ap not y)) at (s .roots i p)
+  cuttable-leads i p y = rw (and-no-right (isPresent ws k i) {b = not (cuttable lo i)} (ap not y)) at (s .roots i p)
 
   fixed-parts : (r i : ℕ) → i < nodeCount ns →
       fixedPart (stageOf ns ws os k) (clustersOf (stageOf ns ws os k) lo hi host fixed gates) (λ j. getD root j 0) r i
@@ -94,15 +94,15 @@ module _ (ns ws os : List ℕ) (k : ℕ) (w : Wired ns ws) (lo hi root host comp
   fixed-parts r i p =
       by (cuttable lo i)
       (λ y.
-      rw (y, cuttable-made i p y, cuttable-leads i p y)
+      rw (y, cuttable-isPresent i p y, cuttable-leads i p y)
       (cut-parts (stageOf ns ws os k .present i) (eqb i r) (eqb (getD host i 0) r) (wireLength ns ws i * wireFactor ws i) (getD lo i 0 * wireFactor ws i) ((wireLength ns ws i - getD hi i 0) * wireFactor ws i)))
       (λ n.
       rw (n, present-is ns ws os k i p)
-      (whole-parts (made ws k i) (eqb (getD root i 0) r) (eqb i r) (eqb (getD host i 0) r) (wireLength ns ws i * wireFactor ws i) (getD lo i 0 * wireFactor ws i) ((wireLength ns ws i - getD hi i 0) * wireFactor ws i)))
+      (whole-parts (isPresent ws k i) (eqb (getD root i 0) r) (eqb i r) (eqb (getD host i 0) r) (wireLength ns ws i * wireFactor ws i) (getD lo i 0 * wireFactor ws i) ((wireLength ns ws i - getD hi i 0) * wireFactor ws i)))
 
   component-inside : (i : ℕ) → i < nodeCount ns → getD component i 0 < nodeCount ns
   component-inside i p =
-      omega (arith, leads-falling (made ws k) (wireParent ws) (nodeCount ns) component (λ j q. made-lower w k j q) (s .components) i p)
+      omega (arith, leads-falling (isPresent ws k) (wireParent ws) (nodeCount ns) component (λ j q. isPresent-lower w k j q) (s .components) i p)
 
   live : (r i : ℕ) → i < nodeCount ns →
       χ (eqb (getD root i 0) r && liveGate (stageOf ns ws os k) (λ j. getD component j 0) i) 1 ≡ χ (eqb (getD root i 0) r) (gateOf ns component marks i)
@@ -127,7 +127,7 @@ module _ (ns ws os : List ℕ) (k : ℕ) (w : Wired ns ws) (lo hi root host comp
         hi-most = λ i t p f. s .ends .high i p .most t f;
         cuttable-if = λ i t p f. lt-ltb 0 (getD lo i 0) (s .ends .low i p .some t f);
         root-up = λ i p present n.
-            rw (and-intro {a = made ws k i} {b = not (cuttable lo i)} (sym (present-is ns ws os k i p) ∙ present) (ap not n)) at (s .roots i p);
+            rw (and-intro {a = isPresent ws k i} {b = not (cuttable lo i)} (sym (present-is ns ws os k i p) ∙ present) (ap not n)) at (s .roots i p);
         root-own = λ i p h.
             rw (ap (λ (t : Bool). t && not (cuttable lo i)) (sym (present-is ns ws os k i p)) ∙ h) at (s .roots i p);
         host-is = λ i p y. rw y at (s .hosts i p);

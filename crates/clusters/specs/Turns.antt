@@ -14,17 +14,17 @@ use Rattle.laws.specs.Sum.{χ, sum}
 use Rattle.laws.specs.Lists.{set-add}
 use Rattle.laws.specs.Sums.{by, and-left, χ-≤, sum-zero, sum-bound, any-next, any-none, up}
 use Rattle.net.specs.Net.{nodeCount, nodeFlags, isGate, wireParent, wireLayer}
-use Rattle.clusters.specs.FirstPasses.{Wired, made, cuttable, whole, leader, Leads, Falling, marked, gathered, gateOf}
+use Rattle.clusters.specs.FirstPasses.{Wired, isPresent, cuttable, whole, leader, Leads, Falling, marked, gathered, gateOf}
 
 -- ---- a wire that is present
-pub made-positive : (ws : List ℕ) (k i : ℕ) → made ws k i ≡ true → 0 < i
-made-positive ws k i h = ltb-true 0 i (and-left (ltb 0 i) (leb (wireLayer ws i) k) h)
+pub isPresent-positive : (ws : List ℕ) (k i : ℕ) → isPresent ws k i ≡ true → 0 < i
+isPresent-positive ws k i h = ltb-true 0 i (and-left (ltb 0 i) (leb (wireLayer ws i) k) h)
 
-pub made-lower : {ns ws : List ℕ} → Wired ns ws → (k i : ℕ) → i < nodeCount ns → made ws k i ≡ true → wireParent ws i < i
-made-lower {ns} {ws} w k i p h = w .below i (made-positive ws k i h) p
+pub isPresent-lower : {ns ws : List ℕ} → Wired ns ws → (k i : ℕ) → i < nodeCount ns → isPresent ws k i ≡ true → wireParent ws i < i
+isPresent-lower {ns} {ws} w k i p h = w .below i (isPresent-positive ws k i h) p
 
 pub whole-lower : {ns ws : List ℕ} → Wired ns ws → (k : ℕ) (lo : List ℕ) (i : ℕ) → i < nodeCount ns → whole ws k lo i ≡ true → wireParent ws i < i
-whole-lower {ns} {ws} w k lo i p h = made-lower w k i p (and-left (made ws k i) (not (cuttable lo i)) h)
+whole-lower {ns} {ws} w k lo i p h = isPresent-lower w k i p (and-left (isPresent ws k i) (not (cuttable lo i)) h)
 
 -- node 0 has no wire
 pub cuttable-positive : (lo : List ℕ) → getD lo 0 0 ≡ 0 → (i : ℕ) → 0 < getD lo i 0 → 0 < i

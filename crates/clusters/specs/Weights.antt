@@ -15,8 +15,8 @@ use Rattle.net.specs.Layout.{wireBytes}
 use Rattle.net.specs.Limits.{lengthBound, factorBound, wireWeightBound}
 use Rattle.net.specs.Net.{nodeCount, wireLength, wireFactor}
 use Rattle.points.specs.Geometry.{length-small}
-use Rattle.clusters.specs.FirstPasses.{Wired, EndsInside, made, cuttable, Falling, gathered, lowerWeight, upperWeight}
-use Rattle.clusters.specs.Turns.{made-positive, gathered-more, gathered-none, gathered-bound, cleared}
+use Rattle.clusters.specs.FirstPasses.{Wired, EndsInside, isPresent, cuttable, Falling, gathered, lowerWeight, upperWeight}
+use Rattle.clusters.specs.Turns.{isPresent-positive, gathered-more, gathered-none, gathered-bound, cleared}
 use Rattle.clusters.specs.EndsLaws.{checked}
 
 -- the most that a wire weighs
@@ -32,9 +32,9 @@ factor-≤ ws bytes i = omega (arith, bytes (wireBytes * (i - 1) + 2))
 module _ (ns ws lo hi : List ℕ) (k : ℕ) (w : Wired ns ws) (nodes : Bytes ns) (wires : Bytes ws) (inside : EndsInside ns ws lo hi) (i : ℕ) (p : i < nodeCount ns) where
   pub lower-small : lowerWeight ns ws k lo i ≤ wireWeightBound
   lower-small =
-      by (made ws k i)
+      by (isPresent ws k i)
       (λ m.
-      let l = length-≤ w nodes i (made-positive ws k i m) p in
+      let l = length-≤ w nodes i (isPresent-positive ws k i m) p in
       by (cuttable lo i)
       (λ y. rw (m, y) (product-small (omega (arith, inside .low i p (ltb-true 0 (getD lo i 0) y))) (factor-≤ ws wires i)))
       (λ n. rw (m, n) (product-small l (factor-≤ ws wires i))))

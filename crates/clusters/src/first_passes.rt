@@ -7,7 +7,7 @@ use crate::roots::find_hosts;
 use crate::roots::find_roots;
 use crate::weights::weigh_clusters;
 ghost use Rattle.net.specs.Net.{nodeCount};
-ghost use Rattle.clusters.specs.FirstPasses.{Wired, Lengths, Clustered};
+ghost use Rattle.clusters.specs.FirstPasses.{Wired, FirstLengths, Clustered};
 
 // lo and hi: the lowest and the highest point of each wire that may be cut, 0 where there is none. root: the lowest node of each node's cluster. host: the root of the cluster that a branch hangs on, 0 for a node that is no branch.
 // component: the lowest node of each node's uncut component. sourced: whether the component with that lowest node has a source. fixed and gates: for each root, the weight that no cut takes away and the gates that a piece may harm; 0 elsewhere.
@@ -26,7 +26,7 @@ pub fn first_passes(
     gates: &mut [u64],
 )
     requires { ⌜ Wired (now nodes) (now wires) ⌝ }
-    requires { ⌜ Lengths (nodeCount (now nodes)) (now lo) (now hi) (now root) (now host) (now component) (now sourced) (now fixed) (now gates) ⌝ }
+    requires { ⌜ FirstLengths (nodeCount (now nodes)) (now lo) (now hi) (now root) (now host) (now component) (now sourced) (now fixed) (now gates) ⌝ }
     ensures { λ _. ⌜ Clustered (now (nodes .entry)) (now (wires .entry)) (now (obstacles .entry)) stage
         (now (lo .exit)) (now (hi .exit)) (now (root .exit)) (now (host .exit)) (now (component .exit)) (now (sourced .exit)) (now (fixed .exit)) (now (gates .exit)) ⌝ }
 {

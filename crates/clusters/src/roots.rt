@@ -7,7 +7,7 @@ ghost use Prim.Native.Nat.{ℕ, _*_, _<_, _≤_};
 ghost use lib.ListN.{length, getD};
 ghost use Rattle.net.specs.Layout.{wireBytes};
 ghost use Rattle.net.specs.Net.{nodeCount, wireParent};
-ghost use Rattle.clusters.specs.FirstPasses.{Wired, made, whole, leader, Leads, hostOf};
+ghost use Rattle.clusters.specs.FirstPasses.{Wired, isPresent, whole, leader, Leads, hostOf};
 
 // The root of node i's cluster, where lower nodes have theirs.
 fn root_of(wires: &[u8], stage: u8, lo: &[u64], root: &[usize], i: usize) -> usize
@@ -69,7 +69,7 @@ pub fn find_hosts(nodes: &[u8], wires: &[u8], lo: &[u64], root: &[usize], host: 
 fn component_of(wires: &[u8], stage: u8, component: &[usize], i: usize) -> usize
     requires { ⌜ (wireBytes * i ≤ length (now wires)) × (i < length (now component)) ⌝ }
     requires { ⌜ (0 < i → wireParent (now wires) i < i) ⌝ }
-    ensures { λ r. ⌜ r ≡ leader (made (now (wires .entry)) stage) (wireParent (now (wires .entry))) (now (component .entry)) i ⌝ }
+    ensures { λ r. ⌜ r ≡ leader (isPresent (now (wires .entry)) stage) (wireParent (now (wires .entry))) (now (component .entry)) i ⌝ }
 {
     if is_present(stage, wires, i) {
         return component[wire_parent(wires, i)];
@@ -81,7 +81,7 @@ fn component_of(wires: &[u8], stage: u8, component: &[usize], i: usize) -> usize
 pub fn find_components(nodes: &[u8], wires: &[u8], stage: u8, component: &mut [usize])
     requires { ⌜ Wired (now nodes) (now wires) ⌝ }
     requires { ⌜ nodeCount (now nodes) ≤ length (now component) ⌝ }
-    ensures { λ _. ⌜ Leads (nodeCount (now (nodes .entry))) (made (now (wires .entry)) stage) (wireParent (now (wires .entry))) (now (component .exit)) ⌝ }
+    ensures { λ _. ⌜ Leads (nodeCount (now (nodes .entry))) (isPresent (now (wires .entry)) stage) (wireParent (now (wires .entry))) (now (component .exit)) ⌝ }
 {
     let n = node_count(nodes);
     let mut i: usize = 0;

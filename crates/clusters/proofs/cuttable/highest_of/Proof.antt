@@ -5,23 +5,23 @@ use native.Mathlib.Omega.{arith}
 use denote.Ref.{now}
 use borrow.Author.Needs.{needs}
 use Rattle.points.specs.Cuttable.{Checked}
-use Rattle.clusters.specs.FirstPasses.{made}
-use Rattle.clusters.specs.Turns.{made-positive}
-use Rattle.clusters.specs.EndsLaws.{checked, highest-made, highest-absent, highest-short}
+use Rattle.clusters.specs.FirstPasses.{isPresent}
+use Rattle.clusters.specs.Turns.{isPresent-positive}
+use Rattle.clusters.specs.EndsLaws.{checked, highest-present, highest-absent, highest-short}
 use Rattle.clusters.proofs.cuttable.highest_of.Statement.{statement}
 use Rattle.clusters.proofs.cuttable.highest_of.Tie as tie
 
 is-present-requires : tie.Need-is-present-requires
 is-present-requires c κs = let s = c .before .before .before in s .pre .0 .stored (s .args .i) (s .pre .1)
 
-made-here : (c : tie.Then1) → made (now (c .before .before .before .before .before .args .wires)) (c .before .before .before .before .before .args .stage) (c .before .before .before .before .before .args .i) ≡ true
-made-here c = sym (c .before .is-present .ensures) ∙ c .if1 .taken
+present-here : (c : tie.Then1) → isPresent (now (c .before .before .before .before .before .args .wires)) (c .before .before .before .before .before .args .stage) (c .before .before .before .before .before .args .i) ≡ true
+present-here c = sym (c .before .is-present .ensures) ∙ c .if1 .taken
 
 checked-here : (c : tie.Then1) → Checked (now (c .before .before .before .before .before .args .nodes)) (now (c .before .before .before .before .before .args .wires)) (c .before .before .before .before .before .args .i)
 checked-here c =
     let s = c .before .before .before .before .before in
     let a = s .args in
-    checked (s .pre .0) (a .i) (made-positive (now (a .wires)) (a .stage) (a .i) (made-here c)) (s .pre .1)
+    checked (s .pre .0) (a .i) (isPresent-positive (now (a .wires)) (a .stage) (a .i) (present-here c)) (s .pre .1)
 
 length-of-requires : tie.Need-length-of-requires
 length-of-requires c κs = checked-here c
@@ -40,7 +40,7 @@ returns c =
     let s = c .before .before .before .before .before .before .before .before in
     let a = s .args in
     let e = c .before .before .length-of .ensures .0 in
-    highest-made (now (a .nodes)) (now (a .wires)) (now (a .obstacles)) (a .stage) (a .i) (s .pre .1) (made-here (c .before .before .before)) (c .highest-cuttable .result) (omega arith)
+    highest-present (now (a .nodes)) (now (a .wires)) (now (a .obstacles)) (a .stage) (a .i) (s .pre .1) (present-here (c .before .before .before)) (c .highest-cuttable .result) (omega arith)
     (rw e at (c .highest-cuttable .ensures))
 
 returns-2 : tie.Need-returns-2

@@ -4,23 +4,23 @@ use mathlib.Core.Bool.{true}
 use native.Mathlib.Omega.{arith}
 use denote.Ref.{now}
 use borrow.Author.Needs.{needs}
-use Rattle.clusters.specs.FirstPasses.{made}
-use Rattle.clusters.specs.Turns.{made-positive}
-use Rattle.clusters.specs.EndsLaws.{checked, lowest-made, lowest-absent}
+use Rattle.clusters.specs.FirstPasses.{isPresent}
+use Rattle.clusters.specs.Turns.{isPresent-positive}
+use Rattle.clusters.specs.EndsLaws.{checked, lowest-present, lowest-absent}
 use Rattle.clusters.proofs.cuttable.lowest_of.Statement.{statement}
 use Rattle.clusters.proofs.cuttable.lowest_of.Tie as tie
 
 is-present-requires : tie.Need-is-present-requires
 is-present-requires c κs = let s = c .before .before .before in s .pre .0 .stored (s .args .i) (s .pre .1)
 
-made-here : (c : tie.Then1) → made (now (c .before .before .before .before .before .args .wires)) (c .before .before .before .before .before .args .stage) (c .before .before .before .before .before .args .i) ≡ true
-made-here c = sym (c .before .is-present .ensures) ∙ c .if1 .taken
+present-here : (c : tie.Then1) → isPresent (now (c .before .before .before .before .before .args .wires)) (c .before .before .before .before .before .args .stage) (c .before .before .before .before .before .args .i) ≡ true
+present-here c = sym (c .before .is-present .ensures) ∙ c .if1 .taken
 
 lowest-cuttable-requires : tie.Need-lowest-cuttable-requires
 lowest-cuttable-requires c κs =
     let s = c .before .before .before .before .before in
     let a = s .args in
-    (checked (s .pre .0) (a .i) (made-positive (now (a .wires)) (a .stage) (a .i) (made-here c)) (s .pre .1), omega arith)
+    (checked (s .pre .0) (a .i) (isPresent-positive (now (a .wires)) (a .stage) (a .i) (present-here c)) (s .pre .1), omega arith)
 
 cast-result : tie.Need-cast-result
 cast-result c = search needs
@@ -29,7 +29,7 @@ returns : tie.Need-returns
 returns c =
     let s = c .before .before .before .before .before .before in
     let a = s .args in
-    lowest-made (now (a .nodes)) (now (a .wires)) (now (a .obstacles)) (a .stage) (a .i) (s .pre .1) (made-here (c .before)) (c .lowest-cuttable .result) (c .lowest-cuttable .ensures)
+    lowest-present (now (a .nodes)) (now (a .wires)) (now (a .obstacles)) (a .stage) (a .i) (s .pre .1) (present-here (c .before)) (c .lowest-cuttable .result) (c .lowest-cuttable .ensures)
 
 returns-2 : tie.Need-returns-2
 returns-2 c =

@@ -7,8 +7,8 @@ use lib.ListN.{length}
 use denote.Ref.{now}
 use borrow.Author.Needs.{needs}
 use Rattle.net.specs.Net.{nodeCount, wireParent}
-use Rattle.clusters.specs.FirstPasses.{EndsInside, Falling, Filled, made, whole}
-use Rattle.clusters.specs.Turns.{made-lower, whole-lower, leads-falling}
+use Rattle.clusters.specs.FirstPasses.{EndsInside, Falling, Filled, isPresent, whole}
+use Rattle.clusters.specs.Turns.{isPresent-lower, whole-lower, leads-falling}
 use Rattle.clusters.specs.EndsLaws.{inside-of, first-none}
 use Rattle.laws.specs.Numbers.{Bytes}
 use Rattle.clusters.specs.FitsLaws.{hosts-falling, fits-of, light-of, short-of}
@@ -86,8 +86,8 @@ component-falls : (c : tie.After-find-components) → Falling (nodeCount (Nodes 
 component-falls c =
     let s = start (cut₁ (roots₂ (hosts₃ c))) in
     let a = s .args in
-    leads-falling (made (now (a .wires)) (a .stage)) (wireParent (now (a .wires))) (nodeCount (now (a .nodes))) (Component c)
-    (λ j p. made-lower (s .pre .0) (a .stage) j p)
+    leads-falling (isPresent (now (a .wires)) (a .stage)) (wireParent (now (a .wires))) (nodeCount (now (a .nodes))) (Component c)
+    (λ j p. isPresent-lower (s .pre .0) (a .stage) j p)
     (c .find-components .ensures)
 
 host-falls : (c : tie.After-find-hosts) → Falling (nodeCount (Nodes (cut₁ (roots₂ c)))) (Host c)

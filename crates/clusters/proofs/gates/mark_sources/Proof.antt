@@ -65,7 +65,7 @@ loop-again c =
     let a = s .args in (
       omega arith,
       ⊎-elim
-          (λ w. ap length (w .2) ∙ (length-set (set (l .sourced) (l .i) false) (getD (now (a .component)) (l .i) 0) true ∙ (length-set (l .sourced) (l .i) false ∙ l .inv .1)))
+          (λ w. ap length (w .2) ∙ (length-set (set (l .sourced) (l .i) false) (getD (now (a .component)) (l .i) 0) _ ∙ (length-set (l .sourced) (l .i) false ∙ l .inv .1)))
           (λ w. ap length (w .1) ∙ (length-set (l .sourced) (l .i) false ∙ l .inv .1))
           (c .if1 .came),
       ⊎-elim

@@ -60,7 +60,7 @@ loop-again c =
     let more = any-next (l .r) test in (
       omega arith,
       ⊎-elim
-          (λ w. ap length (w .2) ∙ (length-set (set (l .hopeless) (l .r) false) (getD component (l .r) 0) true ∙ (length-set (l .hopeless) (l .r) false ∙ l .inv .1)))
+          (λ w. ap length (w .2) ∙ (length-set (set (l .hopeless) (l .r) false) (getD component (l .r) 0) _ ∙ (length-set (l .hopeless) (l .r) false ∙ l .inv .1)))
           (λ w. ap length (w .1) ∙ (length-set (l .hopeless) (l .r) false ∙ l .inv .1))
           (c .if1 .came),
       ⊎-elim

@@ -5,18 +5,18 @@ use mathlib.Core.Bool.{true}
 use native.Mathlib.Omega.{arith}
 use denote.Ref.{now}
 use borrow.Author.Needs.{needs}
-use Rattle.clusters.specs.FirstPasses.{made}
-use Rattle.clusters.specs.Turns.{made-positive}
+use Rattle.clusters.specs.FirstPasses.{isPresent}
+use Rattle.clusters.specs.Turns.{isPresent-positive}
 use Rattle.clusters.proofs.roots.component_of.Statement.{statement}
 use Rattle.clusters.proofs.roots.component_of.Tie as tie
 
 -- in the branch of a wire that is present
-made-here : (c : tie.Then1) → made (now (c .before .before .before .before .args .wires)) (c .before .before .before .before .args .stage) (c .before .before .before .before .args .i) ≡ true
-made-here c = sym (c .before .is-present .ensures) ∙ c .if1 .taken
+present-here : (c : tie.Then1) → isPresent (now (c .before .before .before .before .args .wires)) (c .before .before .before .before .args .stage) (c .before .before .before .before .args .i) ≡ true
+present-here c = sym (c .before .is-present .ensures) ∙ c .if1 .taken
 
 positive : (c : tie.Then1) → 0 < c .before .before .before .before .args .i
 positive c =
-    let a = c .before .before .before .before .args in made-positive (now (a .wires)) (a .stage) (a .i) (made-here c)
+    let a = c .before .before .before .before .args in isPresent-positive (now (a .wires)) (a .stage) (a .i) (present-here c)
 
 is-present-requires : tie.Need-is-present-requires
 is-present-requires c κs = search needs
@@ -37,7 +37,7 @@ shared-slice-read-result : tie.Need-shared-slice-read-result
 shared-slice-read-result c = let l = inside (c .before) in search needs
 
 returns : tie.Need-returns
-returns c = rw (made-here (c .before .before), c .before .wire-parent .ensures)
+returns c = rw (present-here (c .before .before), c .before .wire-parent .ensures)
 
 returns-2 : tie.Need-returns-2
 returns-2 c = rw (sym (c .before .is-present .ensures) ∙ c .if1 .left)

@@ -6,14 +6,14 @@ use lib.ListN.{length, length-set}
 use denote.Ref.{now}
 use borrow.Author.Needs.{needs}
 use Rattle.net.specs.Net.{wireParent}
-use Rattle.clusters.specs.FirstPasses.{made, Leads}
-use Rattle.clusters.specs.Turns.{made-lower, leads-more}
+use Rattle.clusters.specs.FirstPasses.{isPresent, Leads}
+use Rattle.clusters.specs.Turns.{isPresent-lower, leads-more}
 use Rattle.clusters.proofs.roots.find_components.Statement.{statement}
 use Rattle.clusters.proofs.roots.find_components.Tie as tie
 
 abbrev Inv-loop : tie.InvT-loop
 Inv-loop nodes wires stage component₀ n i₀ component i =
-    (i ≤ n) × (length component ≡ length component₀) × Leads i (made wires stage) (wireParent wires) component
+    (i ≤ n) × (length component ≡ length component₀) × Leads i (isPresent wires stage) (wireParent wires) component
 
 abbrev μ-loop : tie.MeasureT-loop
 μ-loop nodes wires stage component₀ n i₀ component i = n - i
@@ -51,8 +51,8 @@ loop-again c =
       omega arith,
       length-set (l .component) (l .i) (c .component-of .result) ∙ l .inv .1,
       rw (c .component-of .ensures)
-          (leads-more (made (now (a .wires)) (a .stage)) (wireParent (now (a .wires))) (l .i) (l .component) (omega arith)
-          (λ j p. made-lower (s .pre .0) (a .stage) j (omega arith))
+          (leads-more (isPresent (now (a .wires)) (a .stage)) (wireParent (now (a .wires))) (l .i) (l .component) (omega arith)
+          (λ j p. isPresent-lower (s .pre .0) (a .stage) j (omega arith))
           (l .inv .2)),
     )
 

@@ -7,19 +7,19 @@ use lib.ListN.{getD}
 use denote.Ref.{now}
 use borrow.Author.Needs.{needs}
 use borrow.Author.Tests.{lt-ltb, le-ltb}
-use Rattle.clusters.specs.FirstPasses.{made}
-use Rattle.clusters.specs.Turns.{made-positive}
+use Rattle.clusters.specs.FirstPasses.{isPresent}
+use Rattle.clusters.specs.Turns.{isPresent-positive}
 use Rattle.clusters.proofs.roots.root_of.Statement.{statement}
 use Rattle.clusters.proofs.roots.root_of.Tie as tie
 
 -- in the branch of a wire that is present
-made-here : (c : tie.Then1) → made (now (c .before .before .before .before .before .args .wires)) (c .before .before .before .before .before .args .stage) (c .before .before .before .before .before .args .i) ≡ true
-made-here c = sym (c .before .is-present .ensures) ∙ c .if1 .taken
+present-here : (c : tie.Then1) → isPresent (now (c .before .before .before .before .before .args .wires)) (c .before .before .before .before .before .args .stage) (c .before .before .before .before .before .args .i) ≡ true
+present-here c = sym (c .before .is-present .ensures) ∙ c .if1 .taken
 
 positive : (c : tie.Then1) → 0 < c .before .before .before .before .before .args .i
 positive c =
     let a = c .before .before .before .before .before .args in
-    made-positive (now (a .wires)) (a .stage) (a .i) (made-here c)
+    isPresent-positive (now (a .wires)) (a .stage) (a .i) (present-here c)
 
 is-present-requires : tie.Need-is-present-requires
 is-present-requires c κs = search needs
@@ -45,12 +45,12 @@ shared-slice-read-result c = let l = inside (c .before) in search needs
 returns : tie.Need-returns
 returns c =
     let a = c .before .before .before .before .before .before .before .before .before .args in
-    rw (made-here (c .before .before .before .before), le-ltb 0 (getD (now (a .lo)) (a .i) 0) (omega arith), c .before .wire-parent .ensures)
+    rw (present-here (c .before .before .before .before), le-ltb 0 (getD (now (a .lo)) (a .i) 0) (omega arith), c .before .wire-parent .ensures)
 
 returns-2 : tie.Need-returns-2
 returns-2 c =
     let a = c .before .before .before .before .before .before .before .args in
-    rw (made-here (c .before .before), lt-ltb 0 (getD (now (a .lo)) (a .i) 0) (omega arith))
+    rw (present-here (c .before .before), lt-ltb 0 (getD (now (a .lo)) (a .i) 0) (omega arith))
 
 returns-3 : tie.Need-returns-3
 returns-3 c = rw (sym (c .before .is-present .ensures) ∙ c .if1 .left)

@@ -9,8 +9,8 @@ use borrow.Author.Needs.{needs}
 use borrow.Author.Tests.{lt-ltb, le-ltb}
 use Rattle.net.specs.Limits.{lengthBound}
 use Rattle.net.specs.Net.{wireLength}
-use Rattle.clusters.specs.FirstPasses.{made}
-use Rattle.clusters.specs.Turns.{made-positive}
+use Rattle.clusters.specs.FirstPasses.{isPresent}
+use Rattle.clusters.specs.Turns.{isPresent-positive}
 use Rattle.clusters.specs.EndsLaws.{checked}
 use Rattle.clusters.specs.Weights.{product-small, length-≤}
 use Rattle.clusters.proofs.weights.lower_weight.Statement.{statement}
@@ -20,11 +20,11 @@ use Rattle.clusters.proofs.weights.lower_weight.Tie as tie
 abbrev start : tie.Then1 → tie.Start
 start c = c .before .before .before .before .before
 
-made-here : (c : tie.Then1) → made (now (start c .args .wires)) (start c .args .stage) (start c .args .i) ≡ true
-made-here c = sym (c .before .is-present .ensures) ∙ c .if1 .taken
+present-here : (c : tie.Then1) → isPresent (now (start c .args .wires)) (start c .args .stage) (start c .args .i) ≡ true
+present-here c = sym (c .before .is-present .ensures) ∙ c .if1 .taken
 
 positive : (c : tie.Then1) → 0 < start c .args .i
-positive c = let a = start c .args in made-positive (now (a .wires)) (a .stage) (a .i) (made-here c)
+positive c = let a = start c .args in isPresent-positive (now (a .wires)) (a .stage) (a .i) (present-here c)
 
 length-here : (c : tie.Then1) → wireLength (now (start c .args .nodes)) (now (start c .args .wires)) (start c .args .i) ≤ lengthBound
 length-here c =
@@ -65,7 +65,7 @@ mul-result-2 c =
 returns : tie.Need-returns
 returns c =
     let a = start (c .before .before .before .before) .args in
-    rw (made-here (c .before .before .before .before), lt-ltb 0 (getD (now (a .lo)) (a .i) 0) (c .before .if2 .taken), c .before .before .before .wire-factor .ensures)
+    rw (present-here (c .before .before .before .before), lt-ltb 0 (getD (now (a .lo)) (a .i) 0) (c .before .if2 .taken), c .before .before .before .wire-factor .ensures)
 
 length-of-requires : tie.Need-length-of-requires
 length-of-requires c κs = let t = c .before .before .before in let s = start t in checked (s .pre .0 .0) (s .args .i) (positive t) (s .pre .0 .1)
@@ -84,7 +84,7 @@ returns-2 : tie.Need-returns-2
 returns-2 c =
     let t = c .before .before .before .before in
     let a = start t .args in
-    rw (made-here t, le-ltb 0 (getD (now (a .lo)) (a .i) 0) (c .before .if2 .left), c .before .before .before .wire-factor .ensures, c .length-of .ensures .0)
+    rw (present-here t, le-ltb 0 (getD (now (a .lo)) (a .i) 0) (c .before .if2 .left), c .before .before .before .wire-factor .ensures, c .length-of .ensures .0)
 
 returns-3 : tie.Need-returns-3
 returns-3 c = rw (sym (c .before .is-present .ensures) ∙ c .if1 .left)
