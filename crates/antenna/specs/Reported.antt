@@ -18,6 +18,7 @@ use Rattle.laws.specs.Numbers.{Bytes, le16-bytes16}
 use Rattle.laws.specs.Indexed.{mem-at, at-mem, sorted-at, total-at, record-at}
 use Rattle.net.specs.declared.Answer.{Answer}
 use Rattle.net.specs.Layout.{recordBytes}
+use Rattle.net.specs.Limits.{lengthBound}
 use Rattle.net.specs.Stage.{Stage, stageOf}
 use Rattle.net.specs.Formed.{Formed}
 use Rattle.net.specs.Refusal.{stageRefusal, readRefusal, sectionOf, nodesOf, wiresOf, obstaclesOf}
@@ -65,8 +66,8 @@ pub record Reported (s : Stage) (limit : ℕ) (J : Points) (buffer : List ℕ) (
   pub harmful : (e : ℕ) → e < count → recordHarmful buffer e ≡ isHarmful s limit (recordPiece s J buffer e)
   pub adds-up : sum count (λ e. recordWeight buffer e) ≡ sum (s .nodes) (λ i. χ (s .present i) (s .len i * s .factor i))
 
--- positions of names are below 2 ^ 16 where lengths of wires are
-position-fits : (s : Stage) (J : Points) → Inside s J → ((i : ℕ) → s .present i ≡ true → s .len i < 65536) → (e : Element) → Real s e → nameOf s J e .position < 65536
+-- positions of names are below the bound of lengths where lengths of wires are
+position-fits : (s : Stage) (J : Points) → Inside s J → ((i : ℕ) → s .present i ≡ true → s .len i < lengthBound) → (e : Element) → Real s e → nameOf s J e .position < lengthBound
 position-fits s J inside short (node i) r = omega arith
 position-fits s J inside short (step i t) (a-step present p l) =
     step-cases s J inside i t
@@ -92,7 +93,7 @@ bit-2 false false true = refl
 bit-2 false false false = refl
 
 -- a buffer that begins with the records of all pieces
-module _ (s : Stage) (limit : ℕ) (J : Points) (formed : Formed s) (inside : Inside s J) (short : (i : ℕ) → s .present i ≡ true → s .len i < 65536)
+module _ (s : Stage) (limit : ℕ) (J : Points) (formed : Formed s) (inside : Inside s J) (short : (i : ℕ) → s .present i ≡ true → s .len i < lengthBound)
     (light : (P : Group) → weightOf s P < 2 ^ 32) (rest : List ℕ) where
   abbrev none-name : Name
   none-name = name 0 0
@@ -115,7 +116,7 @@ module _ (s : Stage) (limit : ℕ) (J : Points) (formed : Formed s) (inside : In
   unfolding recordOf
   name-at e p =
       let r = listed-element s J formed inside (nameAt e) (mem-at none-name (pieceNames s J) e p) in
-      let small : nameAt e .position < 65536 = rw (ap (λ (n : Name). n .position) (r .2)) at (position-fits s J inside short (r .0) (r .1)) in
+      let small : nameAt e .position < lengthBound = rw (ap (λ (n : Name). n .position) (r .2)) at (position-fits s J inside short (r .0) (r .1)) in
       let two : recordBytes * e + 1 + 1 ≡ recordBytes * e + 2 = omega arith in
       same-name
       (rw (add-zero (recordBytes * e)) at (field-at e 0 p (omega arith)))
