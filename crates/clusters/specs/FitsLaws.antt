@@ -9,7 +9,7 @@ use native.Mathlib.Nat.{mul-le-mul}
 use lib.ListN.{getD}
 use lib.Dec.{ltb, eqb}
 use borrow.Author.Tests.{ltb-true, ltb-false, lt-ltb}
-use Rattle.laws.specs.Sum.{χ, sum}
+use Rattle.laws.specs.Sum.{χ}
 use Rattle.laws.specs.Sums.{by, and-intro, and-no-right, χ-and, sum-ap, sum-+, sum-bound}
 use Rattle.net.specs.Layout.{nodeBytes}
 use Rattle.net.specs.Limits.{lengthBound, wireWeightBound, weightBound}
@@ -21,7 +21,7 @@ use Rattle.cuts.specs.Fits.{Fits, fixedPart, liveGate, sourced}
 use Rattle.cuts.specs.Bounds.{allWeight, allWeight-≤}
 use Rattle.cuts.specs.BridgeFits.{free-of}
 use Rattle.clusters.specs.Arrays.{clustersOf}
-use Rattle.clusters.specs.FirstPasses.{Wired, Ends, Filled, isPresent, cuttable, whole, Falling, hostOf, sourceIn, gateOf, lowerWeight, upperWeight}
+use Rattle.clusters.specs.FirstPasses.{Wired, Ends, Filled, isPresent, cuttable, Falling, hostOf, sourceIn, gateOf, lowerWeight, upperWeight}
 use Rattle.clusters.specs.Turns.{isPresent-lower, leads-falling}
 use Rattle.clusters.specs.EndsLaws.{checked, present-is}
 use Rattle.points.specs.Geometry.{length-small}

@@ -1,9 +1,9 @@
 -- Hopeless clusters: no set of jumpers takes away what makes them harmful. 15 is answered exactly where there is one.
 -- Assumes nothing.
-use Prim.Native.Nat.{ℕ, _≤_, _<_}
+use Prim.Native.Nat.{ℕ}
 use mathlib.Core.Bool.{Bool, _&&_}
 use mathlib.Core.List.{List}
-use lib.ListN.{length, getD}
+use lib.ListN.{getD}
 use lib.Dec.{ltb}
 use Rattle.laws.specs.Sum.{any}
 use Rattle.clusters.specs.FirstPasses.{marked}

@@ -6,7 +6,6 @@ use mathlib.Core.List.{List}
 use native.Mathlib.Omega.{arith}
 use native.Mathlib.Nat.{mul-le-mul}
 use lib.ListN.{length, getD, set, length-set}
-use lib.Dec.{ltb}
 use borrow.Author.Tests.{ltb-true}
 use Rattle.laws.specs.Lists.{set-add}
 use Rattle.laws.specs.Numbers.{Bytes}

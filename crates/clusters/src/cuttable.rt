@@ -4,7 +4,6 @@ use net::fields::node_count;
 use points::highest_cuttable;
 use points::length_of;
 use points::lowest_cuttable;
-ghost use mathlib.Core.Path.{_≡_};
 ghost use Prim.Native.Nat.{_<_, _≤_};
 ghost use lib.ListN.{length};
 ghost use Rattle.net.specs.Net.{nodeCount};

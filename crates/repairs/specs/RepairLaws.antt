@@ -7,9 +7,8 @@ use mathlib.Core.List.{List, _++_}
 use lib.ListN.{length, getD, drop, set, replicate, length-set, length-replicate}
 use lib.Dec.{leb, ltb}
 use native.Mathlib.Omega.{arith}
-use native.Mathlib.Numerals.{add-one}
 use borrow.Author.Tests.{lt-ltb}
-use Rattle.laws.specs.Sum.{χ, sum}
+use Rattle.laws.specs.Sum.{χ}
 use Rattle.laws.specs.Sums.{and-left, sum-bound}
 use Rattle.laws.specs.Lists.{over}
 use Rattle.net.specs.declared.Answer.{Answer}
@@ -52,11 +51,11 @@ pub record Planned (s : Stage) (limit : ℕ) (hi near : List ℕ) (cutHigh : Lis
 -- options and cuts that the pass up may choose for the clusters below i, in arrays of n entries
 record Options
     (n : ℕ) (ws lo hi host : List ℕ) (cutAny anyOk : List Bool) (anyWeight : List ℕ) (hasUngated : List Bool) (near : List ℕ) (limit i : ℕ) : Type 0 where
-  mode : List Bool
+  anyMode : List Bool
   cutHigh : List Bool
-  modes : n ≤ length mode
+  modes : n ≤ length anyMode
   cuts : n ≤ length cutHigh
-  chosen : (r : ℕ) → r < i → Chooses ws lo hi host cutAny anyOk anyWeight hasUngated near limit mode cutHigh r
+  chosen : (r : ℕ) → r < i → Chooses ws lo hi host cutAny anyOk anyWeight hasUngated near limit anyMode cutHigh r
 
 -- there are always some
 options :
@@ -65,7 +64,7 @@ options :
     (i : ℕ) → i ≤ n → Options n ws lo hi host cutAny anyOk anyWeight hasUngated near limit i
 options n ws lo hi host cutAny anyOk anyWeight hasUngated near limit below zero p =
     record {
-      mode = replicate n false;
+      anyMode = replicate n false;
       cutHigh = replicate n false;
       modes = omega (arith, length-replicate n false);
       cuts = omega (arith, length-replicate n false);
@@ -73,15 +72,15 @@ options n ws lo hi host cutAny anyOk anyWeight hasUngated near limit below zero 
     }
 options n ws lo hi host cutAny anyOk anyWeight hasUngated near limit below (suc i) p =
     let o = options n ws lo hi host cutAny anyOk anyWeight hasUngated near limit below i (omega arith) in
-    let h = cutHere lo host cutAny hasUngated (o .mode) i in
-    let m = anyHere ws lo hi host anyOk anyWeight near limit (o .mode) h i in
+    let h = cutHere lo host cutAny hasUngated (o .anyMode) i in
+    let m = anyHere ws lo hi host anyOk anyWeight near limit (o .anyMode) h i in
     record {
-      mode = set (o .mode) i m;
+      anyMode = set (o .anyMode) i m;
       cutHigh = set (o .cutHigh) i h;
-      modes = omega (arith, o .modes, length-set (o .mode) i m);
+      modes = omega (arith, o .modes, length-set (o .anyMode) i m);
       cuts = omega (arith, o .cuts, length-set (o .cutHigh) i h);
       chosen = λ r q.
-          chooses-more ws lo hi host cutAny anyOk anyWeight hasUngated near limit (o .mode) (o .cutHigh) i h m (omega (arith, o .modes)) (omega (arith, o .cuts))
+          chooses-more ws lo hi host cutAny anyOk anyWeight hasUngated near limit (o .anyMode) (o .cutHigh) i h m (omega (arith, o .modes)) (omega (arith, o .cuts))
           (λ j l. below j (omega arith)) refl refl (o .chosen) r (omega arith);
     }
 
@@ -152,30 +151,30 @@ module _ (ns ws os : List ℕ) (k : ℕ) (right : NetRight ns ws os) (lo hi root
         }
 
     -- both passes: the list of the chosen points is that of a smallest legal set, and has as many entries as were counted
-    module _ (mode cutHigh : List Bool) (chose : (r : ℕ) → r < nodeCount ns → Chooses ws lo hi host cutAny anyOk anyWeight hasUngated near limit mode cutHigh r) where
-      run : Run (clustersOf (stageOf ns ws os k) lo hi host fixed gates) limit down (upOf mode cutHigh)
+    module _ (anyMode cutHigh : List Bool) (chose : (r : ℕ) → r < nodeCount ns → Chooses ws lo hi host cutAny anyOk anyWeight hasUngated near limit anyMode cutHigh r) where
+      run : Run (clustersOf (stageOf ns ws os k) lo hi host fixed gates) limit down (upOf anyMode cutHigh)
       unfolding clustersOf stageOf
       run =
           record {
             counted = counted;
             chosen = λ r p.
-                chosen-of ws lo hi host cutAny anyOk anyWeight hasUngated near limit (stageOf ns ws os k) fixed gates fewest (worked .counted .ungatedOk) (worked .counted .ungatedWeight) (worked .count) (worked .lightest) (worked .ungated) mode cutHigh r refl (chose r p);
+                chosen-of ws lo hi host cutAny anyOk anyWeight hasUngated near limit (stageOf ns ws os k) fixed gates fewest (worked .counted .ungatedOk) (worked .counted .ungatedWeight) (worked .count) (worked .lightest) (worked .ungated) anyMode cutHigh r refl (chose r p);
           }
 
       pub planned : Planned (stageOf ns ws os k) limit hi near cutHigh points
       unfolding clustersOf stageOf downOf totalFewest rootSum
       planned =
           record {
-            smallest = smallest-list (stageOf ns ws os k) (λ i. getD root i 0) (λ i. getD component i 0) limit lo hi host fixed gates cutAny fewest anyOk anyWeight (worked .counted .ungatedOk) (worked .counted .ungatedWeight) (worked .count) (worked .lightest) hasUngated (worked .ungated) near mode cutHigh is-formed (first .fits) run (first .short);
-            listing = listable (stageOf ns ws os k) (λ i. getD root i 0) (λ i. getD component i 0) limit lo hi host fixed gates cutAny fewest anyOk anyWeight (worked .counted .ungatedOk) (worked .counted .ungatedWeight) (worked .count) (worked .lightest) hasUngated (worked .ungated) near mode cutHigh is-formed (first .fits) run (first .short);
-            points-is = worked .points-is ∙ sym (count-is-total (stageOf ns ws os k) (λ i. getD root i 0) (λ i. getD component i 0) limit lo hi host fixed gates cutAny fewest anyOk anyWeight (worked .counted .ungatedOk) (worked .counted .ungatedWeight) (worked .count) (worked .lightest) hasUngated (worked .ungated) near mode cutHigh is-formed (first .fits) run (first .short));
+            smallest = smallest-list (stageOf ns ws os k) (λ i. getD root i 0) (λ i. getD component i 0) limit lo hi host fixed gates cutAny fewest anyOk anyWeight (worked .counted .ungatedOk) (worked .counted .ungatedWeight) (worked .count) (worked .lightest) hasUngated (worked .ungated) near anyMode cutHigh is-formed (first .fits) run (first .short);
+            listing = listable (stageOf ns ws os k) (λ i. getD root i 0) (λ i. getD component i 0) limit lo hi host fixed gates cutAny fewest anyOk anyWeight (worked .counted .ungatedOk) (worked .counted .ungatedWeight) (worked .count) (worked .lightest) hasUngated (worked .ungated) near anyMode cutHigh is-formed (first .fits) run (first .short);
+            points-is = worked .points-is ∙ sym (count-is-total (stageOf ns ws os k) (λ i. getD root i 0) (λ i. getD component i 0) limit lo hi host fixed gates cutAny fewest anyOk anyWeight (worked .counted .ungatedOk) (worked .counted .ungatedWeight) (worked .count) (worked .lightest) hasUngated (worked .ungated) near anyMode cutHigh is-formed (first .fits) run (first .short));
           }
 
     -- before the pass up has run: it can choose, so as many points as were counted are the fewest
     pub planned-some : (cutHigh : List Bool) × Planned (stageOf ns ws os k) limit hi near cutHigh points
     planned-some =
         let o = options (nodeCount ns) ws lo hi host cutAny anyOk anyWeight hasUngated near limit (choosable-of .below) (nodeCount ns) (omega arith) in
-        (o .cutHigh, planned (o .mode) (o .cutHigh) (o .chosen))
+        (o .cutHigh, planned (o .anyMode) (o .cutHigh) (o .chosen))
 
 -- a wire has at most two jumpers
 pub count-few : (n : ℕ) (near : List ℕ) (cutHigh : List Bool) → countOf n near cutHigh ≤ n * 2

@@ -8,7 +8,7 @@ use native.Mathlib.Omega.{arith}
 use lib.Dec.{ltb, eqb}
 use lib.Count.{ones}
 use borrow.Author.Tests.{ltb-true, lt-ltb, eqb-true, eq-eqb, ne-eqb}
-use Rattle.laws.specs.Sum.{χ, sum, any, lowest}
+use Rattle.laws.specs.Sum.{χ, sum, any}
 use Rattle.laws.specs.Sums.{by, and-left, and-right, and-intro, or-left, or-right, or-cases, any-yes, any-some, same-test, any-ap, and-true, and-comm}
 use Rattle.laws.specs.Masks.{mask, mask-ap, mask-one, mask-ones, mask-lowest, mask-none, mask-some}
 use Rattle.net.specs.Layout.{mostLayers}

@@ -1,5 +1,4 @@
 -- `clusters::hopeless::is_hopeless` meets its contract. Assumes nothing.
-use lib.ListN.{getD}
 use borrow.Author.Needs.{needs}
 use borrow.Author.Tests.{lt-ltb, le-ltb}
 use Rattle.clusters.proofs.hopeless.is_hopeless.Statement.{statement}
