@@ -1,4 +1,4 @@
-//! An implementation of document 01 that shares nothing with the proved one, and what the tests need around it.
+//! An implementation of document 01 (the contract, a paper that stands outside this repository) that shares nothing with the proved one, and what the tests need around it.
 
 mod answer;
 pub mod compile;
