@@ -6,6 +6,7 @@ use super::repair::compare;
 use super::report::compare_report;
 use crate::generate::{any_file, damaged_sections, jumper_list, limit, small_case, stage};
 use crate::library;
+use crate::library::REPAIR_MOST;
 use crate::random::Random;
 use crate::reference::net::{read as expected_read, write as expected_write};
 use crate::reference::report::net_at;
@@ -71,7 +72,7 @@ pub fn one(bytes: &[u8]) -> (u8, Answer) {
         _ => {
             let (stage, limit) = (input.number(1), input.number(4));
             let file = input.0;
-            let mut out = vec![0x3c; 1530];
+            let mut out = vec![0x3c; REPAIR_MOST];
             let answer = library::repair(stage, limit, file, &mut out);
             match net_at(stage, file) {
                 Err(refusal) => assert_eq!(answer, refusal),

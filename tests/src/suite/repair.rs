@@ -1,6 +1,7 @@
 //! Repair: refusals 1 to 11, 15, 16; a smallest legal set, every byte behind it untouched.
 
 use crate::generate::{any_file, large_case, net, small_case, Shape};
+use crate::library::REPAIR_MOST;
 use crate::random::Random;
 use crate::reference::net::{read as expected_read, Net, Node, Obstacle, Wire};
 use crate::reference::report::{legal, Point};
@@ -40,7 +41,7 @@ pub fn compare(
     let file = net.file();
     let told = || format!("{net:?} stage {stage} limit {limit}");
     let Some(count) = least else {
-        for lent in [0, 1, 3, 1530] {
+        for lent in [0, 1, 3, REPAIR_MOST] {
             let (answer, _) = call(repair, stage, limit, &file, lent);
             assert_eq!(answer, Answer::refused(15, 0), "{}", told());
         }
@@ -208,7 +209,7 @@ fn one_of(repair: Repair, net: &Net, limit: u32, sets: &[&[Point]]) {
         expected.sort();
         found.sort();
         assert_eq!(found, expected);
-        let (_, set) = call(repair, 1, limit, &net.file(), 1530);
+        let (_, set) = call(repair, 1, limit, &net.file(), REPAIR_MOST);
         assert!(expected.contains(&set), "{set:?} at limit {limit}");
     }
 }
@@ -314,7 +315,7 @@ pub fn worst_nets(repair: Repair) -> f64 {
         let file = net.file();
         let total = net.total_weight();
         for limit in [0, 1, 255, 65535, total / 200, total / 7, total / 2, total] {
-            let mut out = vec![0; 1530];
+            let mut out = vec![0; REPAIR_MOST];
             let start = std::time::Instant::now();
             repair(1, limit as u32, &file, &mut out);
             slowest = slowest.max(start.elapsed().as_secs_f64() * 1000.0);
