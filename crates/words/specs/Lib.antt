@@ -1,0 +1,4 @@
+-- The root.
+pub mod Words
+pub mod WordsLaws
+pub mod Reading
