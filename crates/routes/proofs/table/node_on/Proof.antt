@@ -1,0 +1,90 @@
+-- `routes::table::node_on` meets its contract. Assumes nothing.
+use denote.Ref.{now}
+use Rattle.routes.specs.Nodes.{numberOn}
+use Rattle.routes.specs.Entries.{search-here, search-none, same-node}
+use Prim.Native.Nat.{ℕ, _+_, _-_, _*_, _%_, _<_, _≤_}
+use mathlib.Core.Path.{_≡_}
+use lib.ListN.{getD}
+use native.Mathlib.Omega.{arith}
+use borrow.Author.Count.{below-none, below-more}
+use borrow.Author.Needs.{needs}
+use Rattle.routes.proofs.table.node_on.Statement.{statement}
+use Rattle.routes.proofs.table.node_on.Tie as tie
+
+abbrev Inv-loop : tie.InvT-loop
+Inv-loop nodes count x y layer wanted i₀ i =
+    (wanted ≡ x + 65536 * y + 4294967296 * layer) × (i ≤ count) × ((j : ℕ) → j < i → getD nodes j 0 % 1099511627776 ≡ wanted → ⊥)
+
+abbrev μ-loop : tie.MeasureT-loop
+μ-loop nodes count x y layer wanted i₀ i = count - i
+
+pack-point-requires : tie.Need-pack-point-requires Inv-loop μ-loop
+pack-point-requires c κs = search needs
+
+mul-wanted : tie.Need-mul-wanted Inv-loop μ-loop
+mul-wanted c = search needs
+
+add-wanted : tie.Need-add-wanted Inv-loop μ-loop
+add-wanted c = search needs
+
+loop-holds : tie.Need-loop-holds Inv-loop μ-loop
+loop-holds c = (search needs, search needs, below-none _)
+
+mul-if1 : tie.Need-mul-if1 Inv-loop μ-loop
+mul-if1 c = search needs
+
+shared-slice-read-if1 : tie.Need-shared-slice-read-if1 Inv-loop μ-loop
+shared-slice-read-if1 c = search needs
+
+returns : tie.Need-returns Inv-loop μ-loop
+unfolding numberOn
+returns c =
+    let a = c .before .before .before .before .before .before .args in
+    let inv = c .before .before .before .loop .inv in (
+      omega arith,
+      λ found e h.
+          rw e
+          (search-here (a .count) _ (λ j. getD (now (a .nodes)) j 0 % 1099511627776) _
+          (λ j l. rw (inv .0) (same-node h (omega arith) (omega arith) j (omega arith) (omega arith) (omega arith)))
+          (c .before .before .before .loop .i) (omega arith) (inv .2) (c .if1 .taken)),
+    )
+
+add-i : tie.Need-add-i Inv-loop μ-loop
+add-i c = search needs
+
+loop-less : tie.Need-loop-less Inv-loop μ-loop
+loop-less c = search needs
+
+loop-again : tie.Need-loop-again Inv-loop μ-loop
+loop-again c = let inv = c .before .before .before .loop .inv in (inv .0, omega arith, below-more _ _ (inv .2) (c .if1 .left))
+
+returns-2 : tie.Need-returns-2 Inv-loop μ-loop
+unfolding numberOn
+returns-2 c =
+    let a = c .before .before .before .before .args in
+    let inv = c .before .loop .inv in (
+      omega arith,
+      λ found e h.
+          rw e
+          (search-none (a .count) _ (λ j. getD (now (a .nodes)) j 0 % 1099511627776) _
+          (λ j l. rw (inv .0) (same-node h (omega arith) (omega arith) j (omega arith) (omega arith) (omega arith)))
+          (λ j l. inv .2 j (omega arith))),
+    )
+
+pub node-on-spec : {M : Type 1} → statement M
+node-on-spec =
+    tie.close
+    (tie.spec
+    Inv-loop
+    μ-loop
+    pack-point-requires
+    mul-wanted
+    add-wanted
+    loop-holds
+    mul-if1
+    shared-slice-read-if1
+    returns
+    add-i
+    loop-less
+    loop-again
+    returns-2)

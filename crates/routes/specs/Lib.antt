@@ -1,0 +1,12 @@
+-- The root.
+pub mod Nodes
+pub mod Table
+pub mod Entries
+pub mod Placing
+pub mod Reaching
+pub mod Holding
+pub mod Reached
+pub mod Taking
+pub mod Reading
+pub mod KnownRead
+pub mod Hanging
