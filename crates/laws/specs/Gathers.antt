@@ -1,14 +1,16 @@
 -- Laws of gathered lists: what is in them, their length, their order, and totals over them.
 -- Assumes nothing.
-use Prim.Native.Nat.{ℕ, zero, suc, _+_, _<_}
-use mathlib.Core.Path.{_≡_, refl, sym}
+use Prim.Native.Nat.{ℕ, zero, suc, _+_, _*_, _<_}
+use mathlib.Core.Path.{_≡_, refl, sym, _∙_}
 use mathlib.Core.Bool.{Bool, true, false}
 use mathlib.Core.Logic.{⊎-elim}
 use mathlib.Core.List.{List, [], _∷_, _++_, List·Memᴰ, List·Memᴰ·head, List·Memᴰ·tail, List·Memᴰ·not-nil, List·Memᴰ·append-cases, List·Memᴰ·eq-of-singleton, Memᴰ·append-left, Memᴰ·append-right}
+use native.Mathlib.Nat.{mul-comm, mul-suc, mul-le-mul-left}
 use native.Mathlib.Omega.{arith}
-use lib.ListN.{length, length-append}
+use lib.ListN.{length, getD, length-append, List·getD-append}
+use lib.Seq.{getD-append-add}
 use Rattle.laws.specs.Sum.{χ, sum}
-use Rattle.laws.specs.Sums.{no-both, last-or-below, sum-+, sum-zero}
+use Rattle.laws.specs.Sums.{no-both, last-or-below, sum-ap, sum-+, sum-zero, sum-const}
 use Rattle.laws.specs.Gather.{only, gather}
 
 -- f of every entry, added
@@ -37,6 +39,28 @@ pub length-gather : {A : Type 0} (n : ℕ) (f : ℕ → List A) → length (gath
 unfolding gather sum
 length-gather zero f = refl
 length-gather (suc n) f = let a = length-gather n f in let b = length-append (gather n f) (f n) in omega arith
+
+pub gather-ap : {A : Type 0} (n : ℕ) {f g : ℕ → List A} → ((i : ℕ) → i < n → f i ≡ g i) → gather n f ≡ gather n g
+unfolding gather
+gather-ap zero h = refl
+gather-ap (suc n) {f} {g} h = rw (gather-ap n {f = f} {g = g} (λ i p. h i (omega arith)), h n (omega arith))
+
+-- records of w entries each: how many entries in all, and entry k of record i
+module _ {A : Type 0} (w : ℕ) (f : ℕ → List A) (each : (i : ℕ) → length (f i) ≡ w) where
+  pub length-records : (n : ℕ) → length (gather n f) ≡ w * n
+  length-records n = length-gather n f ∙ (sum-ap n (λ i p. each i) ∙ (sum-const n w ∙ mul-comm n w))
+
+  pub record-of : (d : A) (n i k : ℕ) → i < n → k < w → getD (gather n f) (w * i + k) d ≡ getD (f i) k d
+  unfolding gather
+  record-of d zero i k p q = absurd (native.Mathlib.Nat.lt-irrefl 0 (omega arith))
+  record-of d (suc n) i k p q =
+      let m = length-records n in
+      ⊎-elim
+      (λ e. rw e (rw (← m) (getD-append-add (gather n f) (f n) k d)))
+      (λ l.
+      List·getD-append (gather n f) (f n) d (w * i + k) (rw m (omega (arith, mul-le-mul-left {m = suc i} {n = n} w (omega arith), mul-suc w i)))
+      ∙ record-of d n i k l q)
+      (last-or-below i n p)
 
 pub mem-gather : {A : Type 0} {x : A} (n i : ℕ) (f : ℕ → List A) → i < n → List·Memᴰ x (f i) → List·Memᴰ x (gather n f)
 unfolding gather

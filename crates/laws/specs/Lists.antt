@@ -1,11 +1,11 @@
 -- Lists as loops write them: what was written at the start of a list, with what was there behind it.
 -- Assumes nothing.
-use Prim.Native.Nat.{ℕ, _+_, _-_, _≤_, _<_}
-use mathlib.Core.Path.{_≡_, sym, _∙_, ap}
+use Prim.Native.Nat.{ℕ, zero, suc, _+_, _-_, _≤_, _<_}
+use mathlib.Core.Path.{_≡_, refl, sym, _∙_, ap}
 use mathlib.Core.List.{List, [], _∷_, _++_, append-assoc, append-nil}
 use native.Mathlib.Numerals.{add-one}
 use native.Mathlib.Omega.{arith}
-use lib.ListN.{length, take, drop, set, getD, length-append, length-drop, drop-of-length-le}
+use lib.ListN.{length, take, drop, set, getD, replicate, length-append, length-drop, drop-of-length-le}
 use lib.Dec.{eqb}
 use lib.Seq.{getD-set-same, getD-set-other, length-take-le, drop-cons, drop-drop, set-at, take-at, drop-at, take-all, take-suc}
 use borrow.Author.Tests.{eqb-true, eqb-false}
@@ -64,3 +64,9 @@ set-add l h x p j =
     by (eqb h j)
     (λ y. rw (y, ← eqb-true h j y) (getD-set-same l h (getD l h 0 + x) 0 p))
     (λ z. rw z (let e = getD-set-other l h j (getD l h 0 + x) 0 (λ e. eqb-false h j z (sym e)) in omega arith))
+
+-- an array of zeros
+pub zeros : (n i : ℕ) → getD {A = ℕ} (replicate n 0) i 0 ≡ 0
+zeros zero i = refl
+zeros (suc n) zero = refl
+zeros (suc n) (suc i) = zeros n i

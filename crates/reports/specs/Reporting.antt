@@ -5,10 +5,9 @@ use mathlib.Core.Path.{_≡_, _∙_}
 use mathlib.Core.Bool.{true, false}
 use mathlib.Core.List.{List}
 use native.Mathlib.Nat.{le-of-eq, zero-add}
-use lib.ListN.{length, replicate, length-replicate, getD-replicate, List·getD-eq-default}
-use lib.Dec.{ltb}
-use borrow.Author.Tests.{lt-ltb, le-ltb, ltb-true, ltb-false}
-use Rattle.laws.specs.Sums.{by}
+use lib.ListN.{length, replicate}
+use borrow.Author.Tests.{lt-ltb, le-ltb}
+use Rattle.laws.specs.Lists.{zeros}
 use Rattle.laws.specs.Place.{place}
 use Rattle.net.specs.declared.Refusal.{Refusal}
 use Rattle.net.specs.Layout.{recordBytes}
@@ -24,11 +23,7 @@ use Rattle.reports.specs.ListRight.{AtMost}
 
 -- an array of zeros
 pub zeros-most : (n : ℕ) → AtMost 0 (replicate n 0)
-zeros-most n h =
-    by (ltb h n)
-    (λ y. le-of-eq (getD-replicate n h 0 0 (ltb-true h n y)))
-    (λ z.
-    le-of-eq (List·getD-eq-default (replicate n 0) 0 {n = h} (rw (length-replicate {A = ℕ} n 0) (ltb-false h n z))))
+zeros-most n h = le-of-eq (zeros n h)
 
 -- a refused answer has count 0 whatever is counted
 pub answer-refused : (r : Refusal) (m n : ℕ) → met r ≡ true → answer r m ≡ answer r n

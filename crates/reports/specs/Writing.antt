@@ -13,7 +13,7 @@ use borrow.Author.Tests.{eq-eqb, ne-eqb}
 use Rattle.laws.specs.Sum.{any}
 use Rattle.laws.specs.Sums.{by, χ-≤, sum-more}
 use Rattle.laws.specs.Gather.{gather}
-use Rattle.laws.specs.Gathers.{length-gather}
+use Rattle.laws.specs.Gathers.{length-gather, gather-ap, length-records}
 use Rattle.laws.specs.Place.{place, place-more, place-part}
 use Rattle.net.specs.Layout.{recordBytes}
 use Rattle.net.specs.Net.{nodeCount, wireLayer, wireFactor}
@@ -63,11 +63,6 @@ flat-gather f x zero = refl
 flat-gather f x (suc n) =
     flat-append f (gather n (λ d. x d ∷ [])) (x n ∷ []) ∙ rw (flat-gather f x n, append-nil (f (x n)))
 
-gather-ap : {A : Type 0} (n : ℕ) {f g : ℕ → List A} → ((d : ℕ) → d < n → f d ≡ g d) → gather n f ≡ gather n g
-unfolding gather
-gather-ap zero h = refl
-gather-ap (suc n) {f} {g} h = rw (gather-ap n {f = f} {g = g} (λ d p. h d (omega arith)), h n (omega arith))
-
 pub fields-length : (number position weight flags layers : ℕ) → length (fields number position weight flags layers) ≡ recordBytes
 unfolding fields
 fields-length number position weight flags layers = refl
@@ -82,13 +77,8 @@ unfolding stretchesFields gather
 stretches-more list i factor layer e n = rw (add-one n)
 
 pub stretches-length : (list : List ℕ) (i factor layer e n : ℕ) → length (stretchesFields list i factor layer e n) ≡ recordBytes * n
-unfolding stretchesFields stretchFields gather
-stretches-length list i factor layer e zero = refl
-stretches-length list i factor layer e (suc n) =
-    let a = stretches-length list i factor layer e n in
-    let b = length-append (stretchesFields list i factor layer e n) (stretchFields list i factor layer (e + n)) in
-    let c = fields-length i (entryPosition list (e + n)) ((entryPosition list (e + n + 1) - entryPosition list (e + n)) * factor) 0 (2 ^ (layer - 1)) in
-    omega arith
+unfolding stretchesFields stretchFields fields
+stretches-length list i factor layer e = length-records recordBytes (λ d. stretchFields list i factor layer (e + d)) (λ d. refl)
 
 module _ (s : Stage) (limit : ℕ) (J : Points) where
   flat-length : (l : List Name) → length (flatMap (recordOf s limit J) l) ≡ recordBytes * length l
