@@ -39,7 +39,7 @@ pub fn write(nodes: &[u8], wires: &[u8], obstacles: &[u8], out: &mut [u8]) -> An
 }
 
 // Head, nodes, wires and obstacles, one behind the other.
-fn write_file(nodes: &[u8], wires: &[u8], obstacles: &[u8], out: &mut [u8])
+pub fn write_file(nodes: &[u8], wires: &[u8], obstacles: &[u8], out: &mut [u8])
     requires { ⌜ fileBytes (now nodes) (now wires) (now obstacles) ≤ length (now out) ⌝ }
     ensures { λ r. ⌜ now (out .exit) ≡ over (fileOf (now (nodes .entry)) (now (wires .entry)) (now (obstacles .entry))) (now (out .entry)) ⌝ }
 {

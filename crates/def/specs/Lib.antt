@@ -1,0 +1,15 @@
+-- The root.
+pub mod Pins
+pub mod Sections
+pub mod Promise
+pub mod Written
+pub mod Joining
+pub mod Distinct
+pub mod WrittenLaws
+pub mod Ending
+pub mod JoiningLaws
+pub mod Sectioning
+pub mod Answering
+pub mod Accepted
+pub mod Numbers
+pub mod Excluded
