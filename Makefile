@@ -2,7 +2,7 @@
 # make test     prove every crate, build the library, run the Rust tests; the last line is 'N passed, M failed'
 # make bench    the proved library against plain Rust, as ratios, and the stack that each call takes
 #               BEFORE=COMMIT: against that commit's library too
-# make fuzz     all four calls against the independent implementation under libFuzzer, for SECONDS (3600)
+# make fuzz     all five calls against the independent implementation under libFuzzer, for SECONDS (3600)
 # make install  library, header, pkg-config file, programs and man pages under PREFIX (/usr/local)
 #
 # KIT=any with any of these takes another Rattle kit than the one that the file KIT names.

@@ -80,3 +80,24 @@ pub unsafe extern "C" fn plain_repair(
     );
     plain::repair::repair(stage, limit, file, out)
 }
+
+#[no_mangle]
+pub unsafe extern "C" fn plain_def(
+    text: *const u8,
+    text_len: usize,
+    place: usize,
+    pins: *const u8,
+    pins_len: usize,
+    obstacles: *const u8,
+    obstacles_len: usize,
+    out: *mut u8,
+    out_len: usize,
+) -> Answer {
+    plain::def::def(
+        from_raw_parts(text, text_len),
+        place,
+        from_raw_parts(pins, pins_len),
+        from_raw_parts(obstacles, obstacles_len),
+        from_raw_parts_mut(out, out_len),
+    )
+}

@@ -1,9 +1,10 @@
 /*
- * A small layout editor's side of the desk: it keeps a net, asks for the report and for a smallest set of jumpers, lends more
- * bytes where a call asks for them, and prints every refusal.
+ * A small layout editor's side of the desk: it keeps a net or takes it from a router's DEF text, asks for the report and for a
+ * smallest set of jumpers, lends more bytes where a call asks for them, and prints every refusal.
  */
 #include <stdio.h>
 #include <stdlib.h>
+#include <string.h>
 
 #include "antenna.h"
 
@@ -87,6 +88,9 @@ static const char *words(uint32_t number) {
     case ANTENNA_REFUSED_JUMPER_BARRED: return "jumper barred";
     case ANTENNA_REFUSED_NO_LEGAL_SET: return "no legal set";
     case ANTENNA_REFUSED_BUFFER: return "bytes needed";
+    case ANTENNA_REFUSED_DEF_FORM: return "word of the text";
+    case ANTENNA_REFUSED_DEF_POINT: return "point of the text";
+    case ANTENNA_REFUSED_DEF_PIN: return "no node at pin";
     default: return "unknown refusal";
     }
 }
@@ -124,22 +128,45 @@ static void show_report(uint32_t stage, uint32_t limit, const buffer *file, cons
     free(out.bytes);
 }
 
+static void mend_file(uint32_t stage, uint32_t limit, const buffer *file) {
+    uint8_t list[ANTENNA_REPAIR_MOST];
+    show_report(stage, limit, file, NULL, 0);
+    antenna_answer a = antenna_repair(stage, limit, file->bytes, file->len, list, sizeof list);
+    if (a.number != ANTENNA_DONE) {
+        print_refusal("repair", a);
+        return;
+    }
+    for (uint64_t k = 0; k < a.count; k++) {
+        const uint8_t *entry = list + ANTENNA_JUMPER_BYTES * k;
+        printf("  jumper on wire %u at %u\n", entry[0], get16(entry + 1));
+    }
+    show_report(stage, limit, file, list, (size_t)(ANTENNA_JUMPER_BYTES * a.count));
+}
+
 static void mend(uint32_t stage, uint32_t limit, const net *n) {
     buffer file = {NULL, 0};
     printf("stage %u, limit %u\n", (unsigned)stage, (unsigned)limit);
-    if (save(n, &file)) {
-        uint8_t list[ANTENNA_REPAIR_MOST];
-        show_report(stage, limit, &file, NULL, 0);
-        antenna_answer a = antenna_repair(stage, limit, file.bytes, file.len, list, sizeof list);
+    if (save(n, &file)) mend_file(stage, limit, &file);
+    free(file.bytes);
+}
+
+/* Each net of a DEF text, one behind the other, until a call is refused. A pin's layer and flags are a byte each. */
+static void mend_routes(uint32_t stage, uint32_t limit, const char *text, const uint8_t *pins, size_t pins_len) {
+    buffer file = {NULL, 0};
+    size_t at = 0;
+    for (;;) {
+        antenna_answer a;
+        do {
+            a = antenna_def((const uint8_t *)text, strlen(text), at, pins, pins_len, NULL, 0, file.bytes, file.len);
+        } while (grown(&file, a));
         if (a.number != ANTENNA_DONE) {
-            print_refusal("repair", a);
-        } else {
-            for (uint64_t k = 0; k < a.count; k++) {
-                const uint8_t *entry = list + ANTENNA_JUMPER_BYTES * k;
-                printf("  jumper on wire %u at %u\n", entry[0], get16(entry + 1));
-            }
-            show_report(stage, limit, &file, list, (size_t)(ANTENNA_JUMPER_BYTES * a.count));
+            print_refusal("route", a);
+            break;
         }
+        printf("route of bytes %zu to %zu, stage %u, limit %u\n", at, (size_t)a.place, (unsigned)stage, (unsigned)limit);
+        buffer net_file = {file.bytes, (size_t)a.count};
+        mend_file(stage, limit, &net_file);
+        at = (size_t)a.place;
     }
     free(file.bytes);
 }
@@ -164,5 +191,10 @@ int main(void) {
     add_node(&n, 20, 20, 0);
     add_wire(&n, 1, 1, 1);
     mend(1, 12, &n);
+
+    /* two routes in a text, a gate at the start of both; behind them a word that no route begins with */
+    static const uint8_t pins[ANTENNA_PIN_BYTES] = {0, 0, 0, 0, 1, ANTENNA_FLAG_GATE};
+    mend_routes(1, 20, "+ ROUTED metal1 ( 0 0 ) ( 13 * ) NEW metal2 ( 13 0 ) ( * 30 ) ;\n"
+                       "+ ROUTED metal1 ( 0 0 ) ( * 40 ) ( 9 * ) ;\nEND", pins, sizeof pins);
     return 0;
 }

@@ -30,10 +30,11 @@
  * change their programs; from 1 on only a rise of the major number may.
  */
 #define ANTENNA_VERSION_MAJOR 0
-#define ANTENNA_VERSION_MINOR 2
+#define ANTENNA_VERSION_MINOR 3
 
 #define ANTENNA_JUMPER_BYTES 3  /* an entry of a jumper list */
 #define ANTENNA_RECORD_BYTES 12 /* a piece record */
+#define ANTENNA_PIN_BYTES 6     /* a pin of antenna_def */
 
 /*
  * Bytes that are enough for every list of antenna_repair: a smallest set has
@@ -49,6 +50,7 @@
 #define ANTENNA_WRITE_STACK 512
 #define ANTENNA_REPORT_STACK 8192
 #define ANTENNA_REPAIR_STACK 32768
+#define ANTENNA_DEF_STACK 8192
 
 #ifdef __cplusplus
 extern "C" {
@@ -56,7 +58,7 @@ extern "C" {
 
 /* The number of an answer. The place is given behind each. */
 enum {
-    ANTENNA_DONE = 0,                      /* no refusal: place 0 */
+    ANTENNA_DONE = 0,                      /* no refusal: 0; of antenna_def the place after the net's `;` */
     ANTENNA_REFUSED_STAGE = 1,             /* stage outside 1 to 16: 0 */
     ANTENNA_REFUSED_HEAD = 2,              /* file under 28 bytes, or version not 1, or pair count not 3: 0 */
     ANTENNA_REFUSED_PAIRS = 3,             /* a section does not begin where the one before ends, the first at 28, the last ending with the file: 0 */
@@ -72,7 +74,10 @@ enum {
     ANTENNA_REFUSED_JUMPER_POINT = 13,     /* no such wire, a wire absent at the stage, or a position outside it: the entry */
     ANTENNA_REFUSED_JUMPER_BARRED = 14,    /* an obstacle holds the point: the entry */
     ANTENNA_REFUSED_NO_LEGAL_SET = 15,     /* no set of jumpers makes the net safe: 0 */
-    ANTENNA_REFUSED_BUFFER = 16            /* more bytes are needed than were lent: the bytes needed */
+    ANTENNA_REFUSED_BUFFER = 16,           /* more bytes are needed than were lent: the bytes needed */
+    ANTENNA_REFUSED_DEF_FORM = 17,         /* the text leaves the form: the first byte of the word, or the text's length where it ends early */
+    ANTENNA_REFUSED_DEF_POINT = 18,        /* a path after the first starts at an unknown point, or a later point of a path is a node already: the byte of its `(` */
+    ANTENNA_REFUSED_DEF_PIN = 19           /* a pin meets no node, or is cut short: the pin, from 0 */
 };
 
 /* The flags of a node, and of a piece record. */
@@ -85,7 +90,7 @@ enum {
 /* What every call returns. After a refusal count is 0. */
 typedef struct {
     uint32_t number; /* ANTENNA_DONE or the refusal */
-    uint64_t place;  /* after a refusal: see above */
+    uint64_t place;  /* see above */
     uint64_t count;  /* after success: see each call */
 } antenna_answer;
 
@@ -141,6 +146,34 @@ antenna_answer antenna_report(uint32_t stage, uint32_t limit,
 antenna_answer antenna_repair(uint32_t stage, uint32_t limit,
                               const uint8_t *file, size_t file_len,
                               uint8_t *out, size_t out_len);
+
+/*
+ * Reads one net's routing from DEF text, from the byte `place` on, and writes
+ * its net file to the start of out. A place past the text counts as its end.
+ * Tries refusals 17 and 18 (whichever is earlier in the text; a point is
+ * judged by 18 once it is whole, with its `)`), 19, 4 to 11 on the sections
+ * made, then 16.
+ * Place, when done: that after `;`, from where the text's next net is read.
+ * Count: the number of bytes written.
+ *
+ * Text: `+ ROUTED`, then paths, separated by `NEW`, then `;`. A path is
+ * `metal1` to `metal16` and two or more points `( x y )`; `*`, never in a
+ * path's first point, repeats that coordinate of the point before. Numbers are
+ * 1 to 5 digits, 0 to 65535; words are parted by bytes 9, 10, 13 or 32.
+ *
+ * Net: a node is a point on a layer, numbered as the text first reaches it.
+ * Each later point of a path hangs on the one before by a wire of the path's
+ * layer. A `NEW` path whose first point is known only on other layers gets a
+ * node there, hung by a via of the higher layer on the lowest-numbered node of
+ * that point. All factors are 1.
+ *
+ * Pins: x, y (16 bits each), layer, flags (8 bits each); pins on one node join
+ * their flags. Obstacles: the section as in a net file.
+ */
+antenna_answer antenna_def(const uint8_t *text, size_t text_len, size_t place,
+                           const uint8_t *pins, size_t pins_len,
+                           const uint8_t *obstacles, size_t obstacles_len,
+                           uint8_t *out, size_t out_len);
 
 #ifdef __cplusplus
 }

@@ -4,16 +4,18 @@
 #![allow(dead_code)]
 
 pub const VERSION_MAJOR: u32 = 0;
-pub const VERSION_MINOR: u32 = 2;
+pub const VERSION_MINOR: u32 = 3;
 
 pub const JUMPER_BYTES: usize = 3;
 pub const RECORD_BYTES: usize = 12;
+pub const PIN_BYTES: usize = 6;
 pub const REPAIR_MOST: usize = 2 * 255 * JUMPER_BYTES;
 
 pub const READ_STACK: usize = 512;
 pub const WRITE_STACK: usize = 512;
 pub const REPORT_STACK: usize = 8192;
 pub const REPAIR_STACK: usize = 32768;
+pub const DEF_STACK: usize = 8192;
 
 pub const DONE: u32 = 0;
 pub const REFUSED_STAGE: u32 = 1;
@@ -32,6 +34,9 @@ pub const REFUSED_JUMPER_POINT: u32 = 13;
 pub const REFUSED_JUMPER_BARRED: u32 = 14;
 pub const REFUSED_NO_LEGAL_SET: u32 = 15;
 pub const REFUSED_BUFFER: u32 = 16;
+pub const REFUSED_DEF_FORM: u32 = 17;
+pub const REFUSED_DEF_POINT: u32 = 18;
+pub const REFUSED_DEF_PIN: u32 = 19;
 
 pub const FLAG_GATE: u8 = 1;
 pub const FLAG_SOURCE: u8 = 2;
@@ -74,6 +79,17 @@ extern "C" {
         limit: u32,
         file: *const u8,
         file_len: usize,
+        out: *mut u8,
+        out_len: usize,
+    ) -> Answer;
+    fn antenna_def(
+        text: *const u8,
+        text_len: usize,
+        place: usize,
+        pins: *const u8,
+        pins_len: usize,
+        obstacles: *const u8,
+        obstacles_len: usize,
         out: *mut u8,
         out_len: usize,
     ) -> Answer;
@@ -120,6 +136,22 @@ pub fn repair(stage: u32, limit: u32, file: &[u8], out: &mut [u8]) -> Answer {
             limit,
             file.as_ptr(),
             file.len(),
+            out.as_mut_ptr(),
+            out.len(),
+        )
+    }
+}
+
+pub fn def(text: &[u8], place: usize, pins: &[u8], obstacles: &[u8], out: &mut [u8]) -> Answer {
+    unsafe {
+        antenna_def(
+            text.as_ptr(),
+            text.len(),
+            place,
+            pins.as_ptr(),
+            pins.len(),
+            obstacles.as_ptr(),
+            obstacles.len(),
             out.as_mut_ptr(),
             out.len(),
         )

@@ -1,7 +1,7 @@
 //! The calls of the copies that build.rs made, as closures on slices.
 //!
 //! A call whose parameters have changed since an earlier commit is called here as that commit's header has it: its version is
-//! `BEFORE_VERSION`. Up to 0.2 all four calls have the parameters of today.
+//! `BEFORE_VERSION`. Up to 0.2 there is no def, and the other calls have the parameters of today.
 
 use antenna_tests::Answer;
 use std::mem::transmute;
@@ -14,6 +14,7 @@ pub type Read = dyn Fn(&[u8]) -> Answer;
 pub type Write = dyn Fn(&[u8], &[u8], &[u8], &mut [u8]) -> Answer;
 pub type Report = dyn Fn(u32, u32, &[u8], &[u8], &mut [u8]) -> Answer;
 pub type Repair = dyn Fn(u32, u32, &[u8], &mut [u8]) -> Answer;
+pub type Def = dyn Fn(&[u8], usize, &[u8], &[u8], &mut [u8]) -> Answer;
 
 /// A call in each copy of a library; nothing if the library does not have it.
 fn addresses(library: &str, call: &str) -> Vec<Address> {
@@ -101,4 +102,37 @@ pub fn repair(library: &str) -> Vec<Box<Repair>> {
         .into_iter()
         .map(typed)
         .collect()
+}
+
+pub fn def(library: &str) -> Vec<Box<Def>> {
+    type Slice = *const u8;
+    type Call = unsafe extern "C" fn(
+        Slice,
+        usize,
+        usize,
+        Slice,
+        usize,
+        Slice,
+        usize,
+        *mut u8,
+        usize,
+    ) -> Answer;
+    let typed = |address: Address| -> Box<Def> {
+        // SAFETY: as for read
+        let call = unsafe { transmute::<Address, Call>(address) };
+        Box::new(move |text, place, pins, obstacles, out| unsafe {
+            call(
+                text.as_ptr(),
+                text.len(),
+                place,
+                pins.as_ptr(),
+                pins.len(),
+                obstacles.as_ptr(),
+                obstacles.len(),
+                out.as_mut_ptr(),
+                out.len(),
+            )
+        })
+    };
+    addresses(library, "def").into_iter().map(typed).collect()
 }

@@ -1,6 +1,7 @@
 //! The proved library against the plain Rust program of the same method, and against the library of an earlier commit, in one run.
 //! Then the stack that each call of the library takes.
 
+mod def;
 mod libraries;
 mod race;
 
@@ -173,6 +174,7 @@ fn main() {
     write();
     report();
     repair();
+    def::def();
     for (call, taken, _) in stack::of_calls() {
         println!("stack, {call}: {taken} bytes");
     }

@@ -7,6 +7,9 @@ use std::ffi::c_long;
 const BATCH: f64 = 100.0;
 /// Microseconds that a contender has for all its batches, about.
 const ALL: f64 = 150_000.0;
+/// Batches at least; of a run that takes longer than all batches should, fewer.
+const FEWEST: f64 = 20.0;
+const FEWEST_SLOW: f64 = 2.0;
 
 /// The copies of one call in the proved library, in plain Rust, and in the library of an earlier commit if it has the call.
 pub struct Contenders<F: ?Sized> {
@@ -70,10 +73,14 @@ fn fastest<F: ?Sized>(runs: usize, copies: &[Box<F>], run: &mut impl FnMut(&F)) 
 
 pub fn race<F: ?Sized>(contenders: &Contenders<F>, mut run: impl FnMut(&F)) -> Fastest {
     let Contenders { now, plain, before } = contenders;
-    fastest(1, plain, &mut run);
-    let once = fastest(3, plain, &mut run);
+    let mut once = fastest(1, plain, &mut run);
+    let mut least = FEWEST_SLOW;
+    if once < ALL {
+        once = fastest(3, plain, &mut run);
+        least = FEWEST;
+    }
     let runs = (BATCH / once).ceil() as usize;
-    let batches = (ALL / (once * runs as f64)).clamp(20.0, 500.0) as usize;
+    let batches = (ALL / (once * runs as f64)).clamp(least, 500.0) as usize;
     let mut best = Fastest {
         now: f64::INFINITY,
         plain: f64::INFINITY,

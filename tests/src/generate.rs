@@ -1,5 +1,7 @@
 //! Random nets, jumper lists and damaged files.
 
+pub mod def;
+
 use crate::random::Random;
 use crate::reference::net::{Net, Node, Obstacle, Wire};
 use crate::reference::report::{free_points, legal, list_of, Point};

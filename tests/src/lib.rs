@@ -10,6 +10,7 @@ pub mod random;
 pub mod reference;
 pub mod stack;
 pub mod suite;
+pub mod zeros;
 
 pub use library::Answer;
 
@@ -24,3 +25,4 @@ pub type Read = fn(&[u8]) -> Answer;
 pub type Write = fn(&[u8], &[u8], &[u8], &mut [u8]) -> Answer;
 pub type Report = fn(u32, u32, &[u8], &[u8], &mut [u8]) -> Answer;
 pub type Repair = fn(u32, u32, &[u8], &mut [u8]) -> Answer;
+pub type Def = fn(&[u8], usize, &[u8], &[u8], &mut [u8]) -> Answer;

@@ -1,8 +1,10 @@
 //! How much stack a call takes: it runs on a thread whose stack was filled with one byte, and the bytes that it changed are counted.
 
+use crate::generate::def::pin;
 use crate::generate::{net, Shape};
 use crate::library;
 use crate::random::Random;
+use crate::suite::def::{long::chain, ENOUGH};
 use crate::suite::repair::worst;
 use std::ffi::c_void;
 
@@ -48,8 +50,33 @@ fn taken<F: FnMut()>(mut call: F) -> usize {
     SIZE - bytes.take_while(|&byte| byte == FILL).count()
 }
 
+/// The most that def takes: for nets of 256 nodes, and for longer texts, which it reads again and refuses for a word, a point, a pin, or all their nodes.
+fn of_def() -> usize {
+    let (full, longer) = (chain(256), chain(700));
+    let (near, far) = (pin((9, 0, 1), 1), pin((600, 0, 1), 1));
+    let lost = pin((9, 9, 9), 1);
+    let mut out = vec![0; ENOUGH];
+    let texts = [
+        (&full, " ;", near, 0),
+        (&full, " ;", lost, 19),
+        (&full, " x", near, 17),
+        (&longer, " ;", far, 4),
+        (&longer, " ;", lost, 19),
+        (&longer, " NEW metal1 ( 600 0 ) ( 600 1 ) x", far, 17),
+        (&longer, " ( 600 0 ) ;", far, 18),
+    ];
+    let taken = texts.map(|(chain, behind, pins, number)| {
+        let text = [chain, behind].concat();
+        taken(|| {
+            let answer = library::def(text.as_bytes(), 0, &pins, &[0; 8], &mut out);
+            assert_eq!(answer.number, number);
+        })
+    });
+    taken.into_iter().max().unwrap()
+}
+
 /// Each call with the most stack that it took, on nets of 256 nodes, and what the header says is enough.
-pub fn of_calls() -> [(&'static str, usize, usize); 4] {
+pub fn of_calls() -> [(&'static str, usize, usize); 5] {
     let mut random = Random::new(4);
     let mut nets: Vec<_> = worst().into_iter().map(|(_, net)| net).collect();
     for obstacles in [0, 16, 256] {
@@ -94,5 +121,6 @@ pub fn of_calls() -> [(&'static str, usize, usize); 4] {
         ("write", write, library::WRITE_STACK),
         ("report", report, library::REPORT_STACK),
         ("repair", repair, library::REPAIR_STACK),
+        ("def", of_def() - none, library::DEF_STACK),
     ]
 }

@@ -1,6 +1,7 @@
 //! The independent implementations against each other: what the tests of the library rest on.
 
 use antenna_tests::generate::{any_net, jumpers, small_case, stage};
+use antenna_tests::plain::def::def;
 use antenna_tests::plain::net::{read, write};
 use antenna_tests::plain::repair::repair;
 use antenna_tests::plain::report::report;
@@ -97,4 +98,20 @@ fn plain_repair() {
     suite::repair::shortcuts(repair);
     suite::repair::worst_nets_are_right(repair);
     println!("slowest: {:.3} ms", suite::repair::worst_nets(repair));
+}
+
+#[test]
+fn plain_def() {
+    suite::def::random_texts(def, 40_000);
+    suite::def::cut_at_every_byte(def);
+    suite::def::every_length_lent(def);
+    suite::def::written_is_read(def, read);
+    suite::def::several_nets(def);
+    suite::def::very_long(def);
+    suite::def::form::all(def);
+    suite::def::net::all(def);
+    suite::def::long::behind_the_table(def);
+    suite::def::long::pins_past_the_most(def);
+    suite::def::long::the_most_nodes(def);
+    suite::def::long::random_long_texts(def, 200);
 }

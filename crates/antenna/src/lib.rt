@@ -5,6 +5,7 @@ ghost use lib.ListN.{length};
 ghost use Rattle.repairs.specs.Promise.{Repaired};
 ghost use Rattle.net.specs.Refusal.{readAnswer, writeAnswer, writeBuffer};
 ghost use Rattle.reports.specs.Promise.{reportAnswer, reportBuffer};
+ghost use Rattle.def.specs.Promise.{defAnswer, defBuffer};
 
 // Reads a net file alone: 2 to 11, or the number of nodes.
 #[no_mangle]
@@ -47,4 +48,18 @@ pub extern "C" fn antenna_repair(stage: u32, limit: u32, file: &[u8], out: &mut 
     ensures { λ r. ⌜ Repaired stage limit (now (file .entry)) (now (out .entry)) (now (out .exit)) r ⌝ }
 {
     repairs::repair(stage, limit, file, out)
+}
+
+// Reads one net's routing from DEF text, from a place on, and writes its net file: 17 or 18, 19, 4 to 11, 16, or the place after `;` and the number of bytes written.
+#[no_mangle]
+pub extern "C" fn antenna_def(
+    text: &[u8],
+    place: usize,
+    pins: &[u8],
+    obstacles: &[u8],
+    out: &mut [u8],
+) -> Answer
+    ensures { λ r. ⌜ (r ≡ defAnswer (now (text .entry)) place (now (pins .entry)) (now (obstacles .entry)) (length (now (out .entry)))) × (now (out .exit) ≡ defBuffer (now (text .entry)) place (now (pins .entry)) (now (obstacles .entry)) (now (out .entry))) ⌝ }
+{
+    def::def(text, place, pins, obstacles, out)
 }

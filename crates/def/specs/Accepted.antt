@@ -8,8 +8,7 @@ use lib.ListN.{length, take, getD}
 use borrow.Author.Tests.{eqb-true, not-false}
 use Rattle.laws.specs.Sums.{no-both}
 use Rattle.net.specs.Net.{nodeCount}
-use Rattle.net.specs.Refusal as net
-use Rattle.net.specs.Refusal.{met}
+use Rattle.net.specs.Refusal.{met, nodesOf}
 use Rattle.net.specs.First.{unmet-number, unmet-l, unmet-r}
 use Rattle.net.specs.RoundTrip.{Holds, written-reads-back}
 use Rattle.paths.specs.declared.Point.{Point}
@@ -17,7 +16,7 @@ use Rattle.paths.specs.declared.Read.{Read}
 use Rattle.paths.specs.declared.Read.the-variants.{Wrong, End, Whole}
 use Rattle.paths.specs.Form.{pointsOf, endingOf}
 use Rattle.paths.specs.FormLaws.{ending-stops, end-above}
-use Rattle.routes.specs.Nodes.{noPoint, pointsRefusal, formRefusal, routeRefusal, nodesOf, endOf, routeEnd}
+use Rattle.routes.specs.Nodes.{noPoint, pointsRefusal, formRefusal, routeRefusal, routeNodes, endOf, routeEnd}
 use Rattle.def.specs.Pins.{pinsRefusal}
 use Rattle.def.specs.Promise.{defNodes, defWires, defRefusal, defAnswer, defBuffer}
 use Rattle.def.specs.Sectioning.{nodes-count}
@@ -39,10 +38,10 @@ module _ (text : List ℕ) (place : ℕ) (pins obstacles out : List ℕ) (done :
   unfolding defRefusal
   route-unmet = unmet-l (routeRefusal text place) _ unmet
 
-  pins-unmet : pinsRefusal (nodesOf text place) pins .number ≡ 0
+  pins-unmet : pinsRefusal (routeNodes text place) pins .number ≡ 0
   unfolding defRefusal
   pins-unmet =
-      eqb-true _ 0 (not-false _ (unmet-l (pinsRefusal (nodesOf text place) pins) _ (unmet-r (routeRefusal text place) _ unmet)))
+      eqb-true _ 0 (not-false _ (unmet-l (pinsRefusal (routeNodes text place) pins) _ (unmet-r (routeRefusal text place) _ unmet)))
 
   -- the bytes that the call counts
   pub def-holds : Holds (take (defAnswer text place pins obstacles (length out) .count) (defBuffer text place pins obstacles out)) (defNodes text place pins) (defWires text place) obstacles
@@ -52,8 +51,8 @@ module _ (text : List ℕ) (place : ℕ) (pins obstacles out : List ℕ) (done :
       (written-reads-back (defNodes text place pins) (defWires text place) obstacles out (ap (λ a. a .number) (w .0) ∙ done))
 
   -- its nodes: as many as the route's
-  pub def-nodes : nodeCount (net.nodesOf (take (defAnswer text place pins obstacles (length out) .count) (defBuffer text place pins obstacles out))) ≡ length (nodesOf text place)
-  def-nodes = rw (def-holds .nodes) (nodes-count (nodesOf text place) pins)
+  pub def-nodes : nodeCount (nodesOf (take (defAnswer text place pins obstacles (length out) .count) (defBuffer text place pins obstacles out))) ≡ length (routeNodes text place)
+  def-nodes = rw (def-holds .nodes) (nodes-count (routeNodes text place) pins)
 
   -- the place that it returns
   pub def-ends : (place < defAnswer text place pins obstacles (length out) .place)

@@ -12,7 +12,7 @@ use Rattle.net.specs.Refusal.{refusal, met, answer, writeRefusal, writeAnswer, 
 use Rattle.net.specs.First.{met-number, unmet-number, first-of, rest-of}
 use Rattle.net.specs.Writing.{write-net}
 use Rattle.routes.specs.declared.Route.{Route}
-use Rattle.routes.specs.Nodes.{routeRefusal, nodesOf, routeEnd}
+use Rattle.routes.specs.Nodes.{routeRefusal, routeNodes, routeEnd}
 use Rattle.routes.specs.Table.{RouteRead}
 use Rattle.def.specs.Pins.{pinsRefusal}
 use Rattle.def.specs.Written.{Ended}
@@ -46,21 +46,21 @@ module _ (text : List ℕ) (place : ℕ) (pins obstacles out : List ℕ) where
 
   module _ (u : met (routeRefusal text place) ≡ false) where
     -- 19
-    pub answered-pins : {r : Refusal} {a : Answer} → r ≡ pinsRefusal (nodesOf text place) pins → (r .number ≡ 0 → ⊥) → a ≡ answer r 0 → Answered a out
+    pub answered-pins : {r : Refusal} {a : Answer} → r ≡ pinsRefusal (routeNodes text place) pins → (r .number ≡ 0 → ⊥) → a ≡ answer r 0 → Answered a out
     unfolding defRefusal
     answered-pins {r} q h =
         let m = met-number r h in
-        answered-refused (rest-of (routeRefusal text place) _ refl u (first-of (pinsRefusal (nodesOf text place) pins) _ q m)) m
+        answered-refused (rest-of (routeRefusal text place) _ refl u (first-of (pinsRefusal (routeNodes text place) pins) _ q m)) m
 
-    module _ (r : Refusal) (q : r ≡ pinsRefusal (nodesOf text place) pins) (h : r .number ≡ 0) where
+    module _ (r : Refusal) (q : r ≡ pinsRefusal (routeNodes text place) pins) (h : r .number ≡ 0) where
       def-write : writeRefusal (defNodes text place pins) (defWires text place) obstacles (length out) ≡ defRefusal text place pins obstacles (length out)
       unfolding defRefusal
-      def-write = rest-of (routeRefusal text place) _ refl u (rest-of (pinsRefusal (nodesOf text place) pins) _ q (unmet-number r h) refl)
+      def-write = rest-of (routeRefusal text place) _ refl u (rest-of (pinsRefusal (routeNodes text place) pins) _ q (unmet-number r h) refl)
 
       -- more nodes than a net may have: 4
-      pub answered-many : mostNodes < length (nodesOf text place) → {s : Refusal} {a : Answer} → s ≡ refusal 4 0 → a ≡ answer s 0 → Answered a out
+      pub answered-many : mostNodes < length (routeNodes text place) → {s : Refusal} {a : Answer} → s ≡ refusal 4 0 → a ≡ answer s 0 → Answered a out
       answered-many l e =
-          let t = too-many (nodesOf text place) pins (defWires text place) obstacles l in
+          let t = too-many (routeNodes text place) pins (defWires text place) obstacles l in
           answered-refused (e ∙ (write-net (defNodes text place pins) (defWires text place) obstacles (length out) _ t refl ∙ def-write)) (ap met e)
 
       -- the sections are written, or refused by one of 4 to 11 and 16

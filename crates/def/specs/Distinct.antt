@@ -12,9 +12,9 @@ use borrow.Author.Tests.{eqb-true, eq-eqb}
 use Rattle.laws.specs.Sums.{by, and-intro, and-left, and-right, any-no, last-or-below, lowest-is}
 use Rattle.paths.specs.declared.Point.{Point}
 use Rattle.paths.specs.Form.{pointsOf}
-use Rattle.paths.specs.Again as again
+use Rattle.paths.specs.Again.{firstRead, standsWithin}
 use Rattle.paths.specs.AgainLaws.{passes, first-whole}
-use Rattle.routes.specs.Nodes.{Node, nodeAt, standsAt, standsOn, known, numberOn, madeBy, reach, nodesFrom, noPoint, nodesOf}
+use Rattle.routes.specs.Nodes.{Node, nodeAt, standsAt, standsOn, known, numberOn, madeBy, reach, nodesFrom, noPoint, routeNodes}
 use Rattle.routes.specs.KnownRead.{known-read}
 use Rattle.routes.specs.Reaching.{length-more, node-before, node-at-end, reach-known, reach-new}
 
@@ -52,28 +52,28 @@ from-distinct nodes before [] d = d
 from-distinct nodes before (p ∷ points) d = from-distinct (reach nodes before p) p points (reach-distinct nodes before p d)
 
 -- a node that stands there is the one that is found there
-pub stands-alone : (text : List ℕ) (place x y layer i : ℕ) → i < length (nodesOf text place) → standsOn x y layer (nodeAt (nodesOf text place) i) ≡ true
-    → numberOn (nodesOf text place) x y layer ≡ i
-unfolding nodesOf numberOn
+pub stands-alone : (text : List ℕ) (place x y layer i : ℕ) → i < length (routeNodes text place) → standsOn x y layer (nodeAt (routeNodes text place) i) ≡ true
+    → numberOn (routeNodes text place) x y layer ≡ i
+unfolding routeNodes numberOn
 stands-alone text place x y layer i h s =
-    lowest-is (length (nodesOf text place)) i (λ k. standsOn x y layer (nodeAt (nodesOf text place) k)) h s
+    lowest-is (length (routeNodes text place)) i (λ k. standsOn x y layer (nodeAt (routeNodes text place) k)) h s
     (λ j l. from-distinct [] noPoint (pointsOf text place) (λ a b c k m p q r. absurd (omega arith)) x y layer i j l h s)
 
 stands : (n m : Node) → n .x ≡ m .x → n .y ≡ m .y → n .layer ≡ m .layer → standsOn (m .x) (m .y) (m .layer) n ≡ true
 stands n m p q r = and-intro (eq-eqb _ _ r) (and-intro (eq-eqb _ _ p) (eq-eqb _ _ q))
 
 -- no two nodes on one point of a layer
-pub one-node : (text : List ℕ) (place i j : ℕ) → i < length (nodesOf text place) → j < length (nodesOf text place)
-    → nodeAt (nodesOf text place) i .x ≡ nodeAt (nodesOf text place) j .x
-    → nodeAt (nodesOf text place) i .y ≡ nodeAt (nodesOf text place) j .y
-    → nodeAt (nodesOf text place) i .layer ≡ nodeAt (nodesOf text place) j .layer → i ≡ j
+pub one-node : (text : List ℕ) (place i j : ℕ) → i < length (routeNodes text place) → j < length (routeNodes text place)
+    → nodeAt (routeNodes text place) i .x ≡ nodeAt (routeNodes text place) j .x
+    → nodeAt (routeNodes text place) i .y ≡ nodeAt (routeNodes text place) j .y
+    → nodeAt (routeNodes text place) i .layer ≡ nodeAt (routeNodes text place) j .layer → i ≡ j
 one-node text place i j h k p q r =
-    let n = nodeAt (nodesOf text place) i in
-    let m = nodeAt (nodesOf text place) j in
+    let n = nodeAt (routeNodes text place) i in
+    let m = nodeAt (routeNodes text place) j in
     sym (stands-alone text place (m .x) (m .y) (m .layer) i h (stands n m p q r))
     ∙ stands-alone text place (m .x) (m .y) (m .layer) j k (stands m m refl refl refl)
 
 -- a node on each point on a layer that the route reaches, and on no other
-pub node-points : (text : List ℕ) (place x y layer : ℕ) → known (nodesOf text place) x y layer ≡ passes (again.standsAt x y layer layer) (pointsOf text place)
-unfolding again.firstRead
-node-points text place x y layer = known-read text place x y layer ∙ first-whole (again.standsAt x y layer layer) (pointsOf text place)
+pub node-points : (text : List ℕ) (place x y layer : ℕ) → known (routeNodes text place) x y layer ≡ passes (standsWithin x y layer layer) (pointsOf text place)
+unfolding firstRead
+node-points text place x y layer = known-read text place x y layer ∙ first-whole (standsWithin x y layer layer) (pointsOf text place)

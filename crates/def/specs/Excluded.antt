@@ -13,7 +13,7 @@ use Rattle.net.specs.File.{headOf, fileOf}
 use Rattle.net.specs.Refusal.{firstOf, sectionsRefusal, nodeRefusal, wireRefusal, obstacleRefusal, netRefusal, writeRefusal}
 use Rattle.words.specs.Words.{blank, leading, wordStart, wordEnd, spelling, same, digit, digits, valueFrom, isNumber, layerDigits, layerOf}
 use Rattle.paths.specs.Form.{isCoordinate, coordinate, pointFrom, pathFrom, behind, beginning, pointIn, onward, readPoints, readEnding, start, pointsOf, endingOf}
-use Rattle.routes.specs.Nodes.{knownAt, lowestAt, known, numberOn, madeBy, reach, nodesFrom, pointRefused, pointsRefusal, formRefusal, routeRefusal, nodesOf, endOf, routeEnd}
+use Rattle.routes.specs.Nodes.{knownAt, lowestAt, known, numberOn, madeBy, reach, nodesFrom, pointRefused, pointsRefusal, formRefusal, routeRefusal, routeNodes, endOf, routeEnd}
 use Rattle.def.specs.Pins.{pinRefusal, pinsRefusal, flagsOf}
 use Rattle.def.specs.Sections.{nodeRecord, nodeSection, wireSection}
 use Rattle.def.specs.Promise.{defNodes, defWires, defRefusal, defAnswer, defBuffer}
@@ -77,5 +77,5 @@ pub record SmallTexts : Type 0 where
   pub via-down : defWires (bytesOf "+ ROUTED metal2 ( 0 0 ) ( 5 0 ) NEW metal1 ( 5 0 ) ( 5 5 ) ;") 0 ≡ 0 ∷ 2 ∷ 1 ∷ 1 ∷ 2 ∷ 1 ∷ 2 ∷ 1 ∷ 1 ∷ []
 
 pub small-texts : SmallTexts
-unfolding blank leading wordStart wordEnd spelling same digit digits valueFrom isNumber layerDigits layerOf isCoordinate coordinate pointFrom pathFrom behind beginning pointIn onward readPoints readEnding start pointsOf endingOf knownAt lowestAt known numberOn madeBy reach nodesFrom pointRefused pointsRefusal formRefusal routeRefusal nodesOf endOf routeEnd any lowest gather firstOf sectionsRefusal nodeRefusal wireRefusal obstacleRefusal netRefusal writeRefusal headOf fileOf pinRefusal pinsRefusal flagsOf nodeRecord nodeSection wireSection defRefusal defAnswer defBuffer
+unfolding blank leading wordStart wordEnd spelling same digit digits valueFrom isNumber layerDigits layerOf isCoordinate coordinate pointFrom pathFrom behind beginning pointIn onward readPoints readEnding start pointsOf endingOf knownAt lowestAt known numberOn madeBy reach nodesFrom pointRefused pointsRefusal formRefusal routeRefusal routeNodes endOf routeEnd any lowest gather firstOf sectionsRefusal nodeRefusal wireRefusal obstacleRefusal netRefusal writeRefusal headOf fileOf pinRefusal pinsRefusal flagsOf nodeRecord nodeSection wireSection defRefusal defAnswer defBuffer
 small-texts = record { answered = refl; written = refl; wrong-word = refl; cut-word = refl; no-word = refl; next-text = refl; past-end = refl; star-first = refl; star-new = refl; one-point = refl; not-whole = refl; known-point = refl; unknown-start = refl; eighteen-first = refl; no-node = refl; cut-pin = refl; six = refl; seven = refl; ten = refl; eleven = refl; sixteen = refl; joined = refl; via-down = refl }

@@ -8,15 +8,15 @@ use lib.ListN.{length, getD}
 use lib.Bits.{bitOr}
 use Rattle.net.specs.Layout.{mostNodes}
 use Rattle.paths.specs.Form.{pointsOf}
-use Rattle.routes.specs.Nodes.{Node, nodeAt, standsOn, nodesOf}
-use Rattle.routes.specs.Table.{Holds, counted}
+use Rattle.routes.specs.Nodes.{Node, nodeAt, standsOn, routeNodes}
+use Rattle.routes.specs.Table.{TableHolds, counted}
 use Rattle.def.specs.Pins.{pinX, pinY, pinLayer, pinFlags, flagsOf}
 
 -- a route was read: the number of its points, of its nodes, and their table
 pub record Routed (text : List ℕ) (place p n : ℕ) (table : List ℕ) : Type 0 where
   pub points : p ≡ length (pointsOf text place)
-  pub count : n ≡ counted (length (nodesOf text place))
-  pub holds : Holds (nodesOf text place) table
+  pub count : n ≡ counted (length (routeNodes text place))
+  pub holds : TableHolds (routeNodes text place) table
   pub long : mostNodes ≤ length table
 
 -- each node has the flags of the first k pins, where all nodes are in the table

@@ -14,7 +14,7 @@ use borrow.Author.Tests.{eqb-true, eqb-false, ltb-true, lt-ltb, le-ltb}
 use Rattle.laws.specs.Sums.{by, not-true-false, or-right, lowest-passes}
 use Rattle.net.specs.Layout.{mostNodes}
 use Rattle.net.specs.Refusal.{none, refusal}
-use Rattle.routes.specs.Nodes.{Node, nodeAt, standsOn, known, numberOn, nodesOf}
+use Rattle.routes.specs.Nodes.{Node, nodeAt, standsOn, known, numberOn, routeNodes}
 use Rattle.routes.specs.Table.{counted}
 use Rattle.routes.specs.Placing.{number-below}
 use Rattle.def.specs.Pins.{pinBytes, pinX, pinY, pinLayer, pinFlags, pinCount, pinRefusal, flagsOf}
@@ -34,13 +34,13 @@ number-known nodes x y layer n count e h = rw (e, h) (number-below nodes x y lay
 
 -- the flags of pin 0 joined to those of the node that it meets
 pub joined-one : (text : List ℕ) (place : ℕ) (pins flags : List ℕ) (n : ℕ)
-    → n ≡ numberOn (nodesOf text place) (pinX pins 0) (pinY pins 0) (pinLayer pins 0)
-    → known (nodesOf text place) (pinX pins 0) (pinY pins 0) (pinLayer pins 0) ≡ true
+    → n ≡ numberOn (routeNodes text place) (pinX pins 0) (pinY pins 0) (pinLayer pins 0)
+    → known (routeNodes text place) (pinX pins 0) (pinY pins 0) (pinLayer pins 0) ≡ true
     → mostNodes ≤ length flags
-    → JoinedOne (nodesOf text place) pins flags (set flags n (bitOr (getD flags n 0) (pinFlags pins 0)))
+    → JoinedOne (routeNodes text place) pins flags (set flags n (bitOr (getD flags n 0) (pinFlags pins 0)))
 unfolding numberOn known
 joined-one text place pins flags n e t room =
-    let nodes = nodesOf text place in
+    let nodes = routeNodes text place in
     let x = pinX pins 0 in
     let y = pinY pins 0 in
     let layer = pinLayer pins 0 in

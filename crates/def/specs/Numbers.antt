@@ -20,7 +20,7 @@ use Rattle.paths.specs.declared.Point.{Point}
 use Rattle.paths.specs.declared.Read.{Read}
 use Rattle.paths.specs.declared.Read.the-variants.{Wrong, End, Whole}
 use Rattle.paths.specs.Form.{pointsOf, endingOf}
-use Rattle.routes.specs.Nodes.{Node, nodeAt, known, noPoint, reach, pointRefused, pointsRefusal, formRefusal, routeRefusal, nodesOf}
+use Rattle.routes.specs.Nodes.{Node, nodeAt, known, noPoint, reach, pointRefused, pointsRefusal, formRefusal, routeRefusal, routeNodes}
 use Rattle.routes.specs.Hanging.{Hung, nodes-hung}
 use Rattle.def.specs.Pins.{pinBytes, pinX, pinY, pinLayer, pinCount, pinRefusal, pinsRefusal}
 use Rattle.def.specs.Sections.{nodeSection, wireRecord, wireSection}
@@ -134,7 +134,7 @@ module _ (nodes : List Node) (pins obstacles : List ℕ) where
 pub def-number : (text : List ℕ) (place : ℕ) (pins obstacles : List ℕ) (lent : ℕ) → isOneOf (defAnswer text place pins obstacles lent .number) defNumbers ≡ true
 unfolding defAnswer defRefusal writeRefusal
 def-number text place pins obstacles lent =
-    let nodes = nodesOf text place in
+    let nodes = routeNodes text place in
     let ns = nodeSection nodes pins in
     let ws = wireSection nodes in
     let needed = fileBytes ns ws obstacles in

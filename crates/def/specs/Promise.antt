@@ -8,22 +8,22 @@ use Rattle.net.specs.declared.Refusal.{Refusal}
 use Rattle.net.specs.declared.Answer.{Answer}
 use Rattle.net.specs.File.{fileOf, fileBytes}
 use Rattle.net.specs.Refusal.{met, orElse, writeRefusal}
-use Rattle.routes.specs.Nodes.{routeRefusal, nodesOf, routeEnd}
+use Rattle.routes.specs.Nodes.{routeRefusal, routeNodes, routeEnd}
 use Rattle.def.specs.Pins.{pinsRefusal}
 use Rattle.def.specs.Sections.{nodeSection, wireSection}
 
 -- the node and the wire section of the routing from a place on
 abbrev pub defNodes : List ℕ → ℕ → List ℕ → List ℕ
-defNodes text place pins = nodeSection (nodesOf text place) pins
+defNodes text place pins = nodeSection (routeNodes text place) pins
 
 abbrev pub defWires : List ℕ → ℕ → List ℕ
-defWires text place = wireSection (nodesOf text place)
+defWires text place = wireSection (routeNodes text place)
 
 -- 17 and 18, then 19, then 4 to 11 on the sections and 16
 unfoldable pub defRefusal : List ℕ → ℕ → List ℕ → List ℕ → ℕ → Refusal
 defRefusal text place pins obstacles lent =
     orElse (routeRefusal text place)
-    (orElse (pinsRefusal (nodesOf text place) pins) (writeRefusal (defNodes text place pins) (defWires text place) obstacles lent))
+    (orElse (pinsRefusal (routeNodes text place) pins) (writeRefusal (defNodes text place pins) (defWires text place) obstacles lent))
 
 -- done: the place after `;`, and the count of the bytes written
 unfoldable pub defAnswer : List ℕ → ℕ → List ℕ → List ℕ → ℕ → Answer

@@ -12,15 +12,15 @@ use Rattle.net.specs.Refusal.{refusal, netRefusal}
 use Rattle.net.specs.First.{first-of}
 use Rattle.net.specs.Reading.{sections-many}
 use Rattle.routes.specs.Nodes.{Node, nodeAt}
-use Rattle.routes.specs.Table.{entry, Fits, Holds}
+use Rattle.routes.specs.Table.{entry, Fits, TableHolds}
 use Rattle.def.specs.Pins.{pinCount, flagsOf}
 use Rattle.def.specs.Sections.{nodeRecord, nodeSection, wireRecord, wireSection}
-use Rattle.def.specs.Written.{nodeFrom, wireFrom, nodesFrom, wiresFrom}
+use Rattle.def.specs.Written.{entryNode, entryWire, tableNodes, tableWires}
 use Rattle.def.specs.Joining.{Joined}
 
 -- the records of a node and of its wire, from its entry
 module _ (n : Node) (f : Fits n) where
-  node-record : (pins : List ℕ) → nodeFrom (entry n) (flagsOf pins n (pinCount pins)) ≡ nodeRecord pins n
+  node-record : (pins : List ℕ) → entryNode (entry n) (flagsOf pins n (pinCount pins)) ≡ nodeRecord pins n
   unfolding nodeRecord
   node-record pins =
       let a : entry n / 16777216 % 256 ≡ n .y / 256 % 256 = omega arith in
@@ -29,21 +29,21 @@ module _ (n : Node) (f : Fits n) where
       let d : entry n % 256 ≡ n .x % 256 = omega arith in
       rw (a, b, c, d)
 
-  wire-record : wireFrom (entry n) ≡ wireRecord n
+  wire-record : entryWire (entry n) ≡ wireRecord n
   wire-record =
       let a : entry n / 1099511627776 % 256 ≡ n .parent = omega arith in
       let b : entry n / 281474976710656 % 256 ≡ n .wire = omega arith in
       rw (a, b)
 
-module _ {nodes : List Node} {table : List ℕ} (h : Holds nodes table) (count : ℕ) (small : count ≤ mostNodes) (e : count ≡ length nodes) where
-  pub nodes-written : {pins flags : List ℕ} → Joined nodes pins (pinCount pins) flags → nodesFrom table flags count ≡ nodeSection nodes pins
+module _ {nodes : List Node} {table : List ℕ} (h : TableHolds nodes table) (count : ℕ) (small : count ≤ mostNodes) (e : count ≡ length nodes) where
+  pub nodes-written : {pins flags : List ℕ} → Joined nodes pins (pinCount pins) flags → tableNodes table flags count ≡ nodeSection nodes pins
   unfolding nodeSection
   nodes-written {pins} j =
       rw e
       (gather-ap (length nodes)
       (λ i l. rw (h .entries i l (omega arith), j .each (omega arith) i l) (node-record (nodeAt nodes i) (h .fits i l (omega arith)) pins)))
 
-  pub wires-written : wiresFrom table (count - 1) ≡ wireSection nodes
+  pub wires-written : tableWires table (count - 1) ≡ wireSection nodes
   unfolding wireSection
   wires-written =
       rw e

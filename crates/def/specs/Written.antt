@@ -11,24 +11,24 @@ use Rattle.laws.specs.Gather.{gather}
 use Rattle.net.specs.declared.Answer.{Answer}
 use Rattle.net.specs.Refusal.{writeAnswer, writeBuffer}
 
-abbrev pub nodeFrom : ℕ → ℕ → List ℕ
-nodeFrom entry flags = bytes32 entry ++ (flags ∷ [])
+abbrev pub entryNode : ℕ → ℕ → List ℕ
+entryNode entry flags = bytes32 entry ++ (flags ∷ [])
 
-abbrev pub wireFrom : ℕ → List ℕ
-wireFrom entry = entry / 1099511627776 % 256 ∷ entry / 281474976710656 % 256 ∷ 1 ∷ []
+abbrev pub entryWire : ℕ → List ℕ
+entryWire entry = entry / 1099511627776 % 256 ∷ entry / 281474976710656 % 256 ∷ 1 ∷ []
 
 -- the first n nodes, and the first n wires
-abbrev pub nodesFrom : List ℕ → List ℕ → ℕ → List ℕ
-nodesFrom table flags n = gather n (λ i. nodeFrom (getD table i 0) (getD flags i 0))
+abbrev pub tableNodes : List ℕ → List ℕ → ℕ → List ℕ
+tableNodes table flags n = gather n (λ i. entryNode (getD table i 0) (getD flags i 0))
 
-abbrev pub wiresFrom : List ℕ → ℕ → List ℕ
-wiresFrom table n = gather n (λ i. wireFrom (getD table (i + 1) 0))
+abbrev pub tableWires : List ℕ → ℕ → List ℕ
+tableWires table n = gather n (λ i. entryWire (getD table (i + 1) 0))
 
 -- what writing a file answers, with the place after `;` where it is done
-abbrev pub ended : Answer → ℕ → Answer
-ended a stop = record { number = a .number; place = cond (not (eqb (a .number) 0)) (a .place) stop; count = a .count }
+abbrev pub withPlace : Answer → ℕ → Answer
+withPlace a stop = record { number = a .number; place = cond (not (eqb (a .number) 0)) (a .place) stop; count = a .count }
 
 -- what is answered, and what the lent buffer then holds
 abbrev pub Ended : List ℕ → List ℕ → List ℕ → ℕ → List ℕ → Answer → List ℕ → Type 0
 Ended nodes wires obstacles stop out a after =
-    (a ≡ ended (writeAnswer nodes wires obstacles (length out)) stop) × (after ≡ writeBuffer nodes wires obstacles out)
+    (a ≡ withPlace (writeAnswer nodes wires obstacles (length out)) stop) × (after ≡ writeBuffer nodes wires obstacles out)

@@ -10,13 +10,13 @@ use Rattle.laws.specs.Lists.{over, over-lent}
 use Rattle.laws.specs.Gather.{gather}
 use Rattle.laws.specs.Gathers.{length-records}
 use Rattle.net.specs.Layout.{nodeBytes, wireBytes}
-use Rattle.def.specs.Written.{nodeFrom, wireFrom, nodesFrom, wiresFrom}
+use Rattle.def.specs.Written.{entryNode, entryWire, tableNodes, tableWires}
 
-pub length-nodes : (table flags : List ℕ) (n : ℕ) → length (nodesFrom table flags n) ≡ nodeBytes * n
-length-nodes table flags = length-records nodeBytes (λ i. nodeFrom (getD table i 0) (getD flags i 0)) (λ i. refl)
+pub length-nodes : (table flags : List ℕ) (n : ℕ) → length (tableNodes table flags n) ≡ nodeBytes * n
+length-nodes table flags = length-records nodeBytes (λ i. entryNode (getD table i 0) (getD flags i 0)) (λ i. refl)
 
-pub length-wires : (table : List ℕ) (n : ℕ) → length (wiresFrom table n) ≡ wireBytes * n
-length-wires table = length-records wireBytes (λ i. wireFrom (getD table (i + 1) 0)) (λ i. refl)
+pub length-wires : (table : List ℕ) (n : ℕ) → length (tableWires table n) ≡ wireBytes * n
+length-wires table = length-records wireBytes (λ i. entryWire (getD table (i + 1) 0)) (λ i. refl)
 
 -- one record more, written into what was lent behind those before
 module _ (w : ℕ) (f : ℕ → List ℕ) (each : (i : ℕ) → length (f i) ≡ w) where

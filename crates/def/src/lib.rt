@@ -18,7 +18,7 @@ ghost use Prim.Native.Nat.{_-_, _≤_};
 ghost use lib.ListN.{length};
 ghost use Rattle.net.specs.Layout.{mostNodes};
 ghost use Rattle.def.specs.Promise.{defAnswer, defBuffer};
-ghost use Rattle.def.specs.Written.{nodesFrom, wiresFrom, Ended};
+ghost use Rattle.def.specs.Written.{tableNodes, tableWires, Ended};
 
 pub mod pins;
 pub mod sections;
@@ -57,7 +57,7 @@ fn write_net(
     out: &mut [u8],
 ) -> Answer
     requires { ⌜ (1 ≤ count) × (count ≤ mostNodes) × (count ≤ length (now nodes)) × (count ≤ length (now flags)) ⌝ }
-    ensures { λ r. ⌜ Ended (nodesFrom (now (nodes .entry)) (now (flags .entry)) count) (wiresFrom (now (nodes .entry)) (count - 1)) (now (obstacles .entry)) stop (now (out .entry)) r (now (out .exit)) ⌝ }
+    ensures { λ r. ⌜ Ended (tableNodes (now (nodes .entry)) (now (flags .entry)) count) (tableWires (now (nodes .entry)) (count - 1)) (now (obstacles .entry)) stop (now (out .entry)) r (now (out .exit)) ⌝ }
 {
     let wires = count - 1;
     let nodes_end = NODE_BYTES * count;

@@ -11,7 +11,7 @@ ghost use Prim.Native.Nat.{ℕ, _+_, _*_, _≤_};
 ghost use lib.ListN.{length, getD};
 ghost use Rattle.net.specs.Layout.{mostNodes};
 ghost use Rattle.net.specs.Refusal.{met};
-ghost use Rattle.routes.specs.Nodes.{known, nodesOf};
+ghost use Rattle.routes.specs.Nodes.{known, routeNodes};
 ghost use Rattle.def.specs.Pins.{pinBytes, pinX, pinY, pinLayer, pinCount, pinsRefusal};
 ghost use Rattle.def.specs.Joining.{Routed, Joined, JoinedOne};
 
@@ -30,7 +30,7 @@ pub fn join_pins(
 ) -> Refusal
     requires { ⌜ Routed (now text) place points count (now nodes) ⌝ }
     requires { ⌜ (mostNodes ≤ length (now flags)) × ((i : ℕ) → getD (now flags) i 0 ≡ 0) ⌝ }
-    ensures { λ r. ⌜ (r ≡ pinsRefusal (nodesOf (now (text .entry)) place) (now (pins .entry))) × (met r ≡ false → Joined (nodesOf (now (text .entry)) place) (now (pins .entry)) (pinCount (now (pins .entry))) (now (flags .exit))) ⌝ }
+    ensures { λ r. ⌜ (r ≡ pinsRefusal (routeNodes (now (text .entry)) place) (now (pins .entry))) × (met r ≡ false → Joined (routeNodes (now (text .entry)) place) (now (pins .entry)) (pinCount (now (pins .entry))) (now (flags .exit))) ⌝ }
 {
     let mut at = 0;
     let mut k = 0;
@@ -59,7 +59,7 @@ fn join_pin(
 ) -> bool
     requires { ⌜ Routed (now text) place points count (now nodes) ⌝ }
     requires { ⌜ (mostNodes ≤ length (now flags)) × (pinBytes ≤ length (now pins)) ⌝ }
-    ensures { λ r. ⌜ (r ≡ known (nodesOf (now (text .entry)) place) (pinX (now (pins .entry)) 0) (pinY (now (pins .entry)) 0) (pinLayer (now (pins .entry)) 0)) × (r ≡ true → JoinedOne (nodesOf (now (text .entry)) place) (now (pins .entry)) (now (flags .entry)) (now (flags .exit))) ⌝ }
+    ensures { λ r. ⌜ (r ≡ known (routeNodes (now (text .entry)) place) (pinX (now (pins .entry)) 0) (pinY (now (pins .entry)) 0) (pinLayer (now (pins .entry)) 0)) × (r ≡ true → JoinedOne (routeNodes (now (text .entry)) place) (now (pins .entry)) (now (flags .entry)) (now (flags .exit))) ⌝ }
 {
     let x = number16(pins[0], pins[1]);
     let y = number16(pins[2], pins[3]);

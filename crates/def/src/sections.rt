@@ -8,12 +8,12 @@ ghost use Prim.Native.Nat.{_*_, _<_, _≤_};
 ghost use lib.ListN.{length};
 ghost use Rattle.laws.specs.Lists.{over};
 ghost use Rattle.net.specs.Layout.{nodeBytes, wireBytes};
-ghost use Rattle.def.specs.Written.{nodeFrom, wireFrom, nodesFrom, wiresFrom};
+ghost use Rattle.def.specs.Written.{entryNode, entryWire, tableNodes, tableWires};
 
 // The first `count` nodes, one behind the other.
 pub fn write_nodes(nodes: &[u64], count: usize, flags: &[u8], out: &mut [u8])
     requires { ⌜ (count ≤ length (now nodes)) × (count ≤ length (now flags)) × (nodeBytes * count ≤ length (now out)) ⌝ }
-    ensures { λ r. ⌜ now (out .exit) ≡ over (nodesFrom (now (nodes .entry)) (now (flags .entry)) count) (now (out .entry)) ⌝ }
+    ensures { λ r. ⌜ now (out .exit) ≡ over (tableNodes (now (nodes .entry)) (now (flags .entry)) count) (now (out .entry)) ⌝ }
 {
     let mut i = 0;
     while i < count {
@@ -26,7 +26,7 @@ pub fn write_nodes(nodes: &[u64], count: usize, flags: &[u8], out: &mut [u8])
 // The first `count` wires, from wire 1 on, one behind the other.
 pub fn write_wires(nodes: &[u64], count: usize, out: &mut [u8])
     requires { ⌜ (count < length (now nodes)) × (wireBytes * count ≤ length (now out)) ⌝ }
-    ensures { λ r. ⌜ now (out .exit) ≡ over (wiresFrom (now (nodes .entry)) count) (now (out .entry)) ⌝ }
+    ensures { λ r. ⌜ now (out .exit) ≡ over (tableWires (now (nodes .entry)) count) (now (out .entry)) ⌝ }
 {
     let mut i = 0;
     while i < count {
@@ -39,7 +39,7 @@ pub fn write_wires(nodes: &[u64], count: usize, out: &mut [u8])
 // A node: x, y, flags.
 fn write_node(entry: u64, flags: u8, out: &mut [u8])
     requires { ⌜ nodeBytes ≤ length (now out) ⌝ }
-    ensures { λ r. ⌜ now (out .exit) ≡ over (nodeFrom entry flags) (now (out .entry)) ⌝ }
+    ensures { λ r. ⌜ now (out .exit) ≡ over (entryNode entry flags) (now (out .entry)) ⌝ }
 {
     out[0] = (entry % 256) as u8;
     out[1] = (entry / 256 % 256) as u8;
@@ -51,7 +51,7 @@ fn write_node(entry: u64, flags: u8, out: &mut [u8])
 // A wire: parent, layer, factor 1.
 fn write_wire(entry: u64, out: &mut [u8])
     requires { ⌜ wireBytes ≤ length (now out) ⌝ }
-    ensures { λ r. ⌜ now (out .exit) ≡ over (wireFrom entry) (now (out .entry)) ⌝ }
+    ensures { λ r. ⌜ now (out .exit) ≡ over (entryWire entry) (now (out .entry)) ⌝ }
 {
     out[0] = (entry / PARENT % 256) as u8;
     out[1] = (entry / WIRE % 256) as u8;

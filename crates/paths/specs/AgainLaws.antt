@@ -13,7 +13,7 @@ use Rattle.paths.specs.declared.Point.{Point}
 use Rattle.paths.specs.declared.Read.{Read}
 use Rattle.paths.specs.declared.Read.the-variants.{Wrong, End, Whole}
 use Rattle.paths.specs.Form.{behind, beginning, start, readPoints, pointsOf}
-use Rattle.paths.specs.Again.{standsAt, firstPoint, firstRead}
+use Rattle.paths.specs.Again.{standsWithin, firstPoint, firstRead}
 use Rattle.paths.specs.FormLaws.{Sound, start-sound, sound-step, points-step, points-wrong, points-end}
 
 -- some point of a list passes a test
@@ -85,7 +85,7 @@ module _ {text : List ℕ} {test : Point → Bool} {n k v : ℕ} {r : Read} (i :
   search-none h = let z : n - k ≡ 0 = omega arith in rw (i .rest, z) (omega arith)
 
 pub search-start : (text : List ℕ) (place n x y low high : ℕ) {s : ℕ} {r : Read} → s ≡ start text place → r ≡ beginning text s
-    → Searching text (standsAt x y low high) n 0 (firstRead text place n x y low high) r
+    → Searching text (standsWithin x y low high) n 0 (firstRead text place n x y low high) r
 unfolding firstRead pointsOf
 search-start text place n x y low high e q =
     let z : n - 0 ≡ n = omega arith in

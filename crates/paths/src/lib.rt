@@ -17,7 +17,7 @@ ghost use Prim.Native.Nat.{_≤_, _<_};
 ghost use lib.ListN.{length};
 ghost use Rattle.words.specs.Words.{spelling};
 ghost use Rattle.paths.specs.Form.{isCoordinate, coordinate, pointFrom, pathFrom, behind, beginning, start};
-ghost use Rattle.paths.specs.Again.{standsAt, firstRead};
+ghost use Rattle.paths.specs.Again.{standsWithin, firstRead};
 
 // A point of a path: the byte of its `(`, the path's layer, whether it is the path's first, and its coordinates.
 pub struct Point {
@@ -185,7 +185,7 @@ pub fn first_read(
 
 // The point stands at x, y in a path of a layer from low to high.
 fn stands(p: Point, x: u16, y: u16, low: u8, high: u8) -> bool
-    ensures { λ r. ⌜ r ≡ standsAt x y low high p ⌝ }
+    ensures { λ r. ⌜ r ≡ standsWithin x y low high p ⌝ }
 {
     let layer = p.layer;
     if p.x != x {

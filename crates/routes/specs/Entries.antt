@@ -13,7 +13,7 @@ use Rattle.laws.specs.Sum.{lowest}
 use Rattle.laws.specs.Sums.{same-test, and-intro, and-left, and-right, any-none, lowest-is, lowest-none}
 use Rattle.net.specs.Layout.{mostNodes}
 use Rattle.routes.specs.Nodes.{Node, nodeAt, standsAt, standsOn}
-use Rattle.routes.specs.Table.{entry, Fits, Holds}
+use Rattle.routes.specs.Table.{entry, Fits, TableHolds}
 
 -- the digits of an entry
 module _ (n : Node) (f : Fits n) where
@@ -42,7 +42,7 @@ module _ (n w : ℕ) (g : ℕ → ℕ) (f : ℕ → Bool) (same : (i : ℕ) → 
   search-none b = sym (lowest-none n f (any-none n f (λ j m. sym (same j m) ∙ ne-eqb _ _ (b j m))))
 
 -- the layer of a node in the table
-pub held-layer : {found : List Node} {table : List ℕ} → Holds found table → (i : ℕ) → i < length found → i < mostNodes → getD table i 0 / 4294967296 % 256 ≡ nodeAt found i .layer
+pub held-layer : {found : List Node} {table : List ℕ} → TableHolds found table → (i : ℕ) → i < length found → i < mostNodes → getD table i 0 / 4294967296 % 256 ≡ nodeAt found i .layer
 held-layer {found} h i l m = rw (h .entries i l m) (entry-layer (nodeAt found i) (h .fits i l m))
 
 -- two numbers are the same if their digits are
@@ -69,7 +69,7 @@ same-node-digits a b x y p q =
     eq-eqb v w (omega arith))
 
 -- the tests of an entry's digits are those of its node
-module _ {found : List Node} {table : List ℕ} (h : Holds found table) {x y : ℕ} (a : x < 65536) (b : y < 65536) (i : ℕ) (l : i < length found) (m : i < mostNodes) where
+module _ {found : List Node} {table : List ℕ} (h : TableHolds found table) {x y : ℕ} (a : x < 65536) (b : y < 65536) (i : ℕ) (l : i < length found) (m : i < mostNodes) where
   pub same-point : eqb (getD table i 0 % 4294967296) (x + 65536 * y) ≡ standsAt x y (nodeAt found i)
   same-point =
       let n = nodeAt found i in

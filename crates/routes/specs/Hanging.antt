@@ -16,7 +16,7 @@ use Rattle.net.specs.First.{unmet-if, unmet-l, unmet-r}
 use Rattle.paths.specs.declared.Point.{Point}
 use Rattle.paths.specs.Form.{pointsOf, endingOf}
 use Rattle.paths.specs.FormLaws.{InRange, AllInRange, points-in-range}
-use Rattle.routes.specs.Nodes.{Node, noNode, noPoint, nodeAt, known, lowestAt, higher, madeBy, reach, nodesFrom, nodesOf, pointRefused, pointsRefusal, formRefusal, routeRefusal}
+use Rattle.routes.specs.Nodes.{Node, noNode, noPoint, nodeAt, known, lowestAt, higher, madeBy, reach, nodesFrom, routeNodes, pointRefused, pointsRefusal, formRefusal, routeRefusal}
 use Rattle.routes.specs.Placing.{number-below, lowest-at-below}
 use Rattle.routes.specs.Reaching.{length-more, node-before, node-at-end, reach-known, reach-new, reached-known}
 
@@ -96,8 +96,8 @@ from-hung nodes before (p ∷ points) h k f u =
     (unmet-r a b u)
 
 pub nodes-hung : (text : List ℕ) (place : ℕ) → met (routeRefusal text place) ≡ false
-    → (i : ℕ) → i < length (nodesOf text place) → Hung i (nodeAt (nodesOf text place) i)
-unfolding routeRefusal nodesOf
+    → (i : ℕ) → i < length (routeNodes text place) → Hung i (nodeAt (routeNodes text place) i)
+unfolding routeRefusal routeNodes
 nodes-hung text place u =
     from-hung [] noPoint (pointsOf text place) (λ i l. absurd (omega arith)) (λ o. absurd (omega arith)) (points-in-range text place)
     (unmet-l (pointsRefusal [] noPoint (pointsOf text place)) (formRefusal (endingOf text place)) u)

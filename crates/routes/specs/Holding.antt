@@ -14,19 +14,19 @@ use Rattle.laws.specs.Sums.{by, last-or-below}
 use Rattle.net.specs.Layout.{mostNodes}
 use Rattle.paths.specs.declared.Point.{Point}
 use Rattle.routes.specs.Nodes.{Node, noNode, nodeAt, lowestAt, madeBy}
-use Rattle.routes.specs.Table.{entry, Fits, Holds}
+use Rattle.routes.specs.Table.{entry, Fits, TableHolds}
 use Rattle.routes.specs.Reaching.{length-more, node-before, node-at-end, number-most, lowest-at-most}
 
 -- one node more: stored behind the others, or past the table
-module _ {nodes : List Node} {table : List ℕ} (h : Holds nodes table) (n : Node) where
-  pub holds-past : mostNodes ≤ length nodes → Holds (nodes ++ (n ∷ [])) table
+module _ {nodes : List Node} {table : List ℕ} (h : TableHolds nodes table) (n : Node) where
+  pub holds-past : mostNodes ≤ length nodes → TableHolds (nodes ++ (n ∷ [])) table
   holds-past f =
       record {
         entries = λ i l m. rw (node-before nodes n i (omega arith)) (h .entries i (omega arith) m);
         fits = λ i l m. rw (node-before nodes n i (omega arith)) (h .fits i (omega arith) m);
       }
 
-  pub holds-stored : Fits n → length nodes < length table → Holds (nodes ++ (n ∷ [])) (set table (length nodes) (entry n))
+  pub holds-stored : Fits n → length nodes < length table → TableHolds (nodes ++ (n ∷ [])) (set table (length nodes) (entry n))
   holds-stored f k =
       record {
         entries = λ i l m.
@@ -42,7 +42,7 @@ module _ {nodes : List Node} {table : List ℕ} (h : Holds nodes table) (n : Nod
       }
 
 -- a node's layer fits, and so does that of no node
-held-fits : {nodes : List Node} {table : List ℕ} → Holds nodes table → length nodes ≤ mostNodes → (i : ℕ) → nodeAt nodes i .layer < 256
+held-fits : {nodes : List Node} {table : List ℕ} → TableHolds nodes table → length nodes ≤ mostNodes → (i : ℕ) → nodeAt nodes i .layer < 256
 held-fits {nodes} h l i =
     by (ltb i (length nodes))
     (λ y. let q = ltb-true i (length nodes) y in h .fits i q (omega arith) .layer)
@@ -53,7 +53,7 @@ cond-below true p q = p
 cond-below false p q = q
 
 -- the node that a point makes fits, where there is room for it
-pub made-fits : {nodes : List Node} {table : List ℕ} → Holds nodes table → length nodes < mostNodes
+pub made-fits : {nodes : List Node} {table : List ℕ} → TableHolds nodes table → length nodes < mostNodes
     → (before p : Point) → p .x < 65536 → p .y < 65536 → p .layer < 256 → Fits (madeBy nodes before p)
 unfolding madeBy
 made-fits {nodes} h l before p a b c =

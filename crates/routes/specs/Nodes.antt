@@ -95,8 +95,8 @@ unfoldable pub routeRefusal : List ℕ → ℕ → Refusal
 routeRefusal text place = orElse (pointsRefusal [] noPoint (pointsOf text place)) (formRefusal (endingOf text place))
 
 -- the nodes of the route from a place on, and the place after its `;`
-unfoldable pub nodesOf : List ℕ → ℕ → List Node
-nodesOf text place = nodesFrom [] noPoint (pointsOf text place)
+unfoldable pub routeNodes : List ℕ → ℕ → List Node
+routeNodes text place = nodesFrom [] noPoint (pointsOf text place)
 
 unfoldable pub endOf : Read → ℕ
 endOf (Wrong at) = at

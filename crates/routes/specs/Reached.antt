@@ -9,11 +9,11 @@ use lib.ListN.{length, length-append}
 use Rattle.net.specs.Layout.{mostNodes}
 use Rattle.net.specs.Refusal.{refusal}
 use Rattle.paths.specs.declared.Point.{Point}
-use Rattle.paths.specs.Again as again
+use Rattle.paths.specs.Again.{standsWithin}
 use Rattle.paths.specs.AgainLaws.{passes, passes-more}
 use Rattle.routes.specs.declared.Taken.{Taken}
 use Rattle.routes.specs.Nodes.{Node, noPoint, known, knownAt, numberOn, reach, nodesFrom, pointRefused, pointsRefusal}
-use Rattle.routes.specs.Table.{Holds, counted}
+use Rattle.routes.specs.Table.{TableHolds, counted}
 use Rattle.routes.specs.Reaching.{known-reach, known-at-reach, number-reach, some-reached}
 
 -- of all points of a route `points` have been read, and the rest is still to be read: the nodes found, the point before, and what the variables of reading hold.
@@ -26,12 +26,12 @@ pub record Reached (all rest : List Point) (points count last : ℕ) (table : Li
   pub many : points ≡ length done
   pub refused : pointsRefusal [] noPoint all ≡ pointsRefusal nodes before rest
   pub found : nodesFrom [] noPoint all ≡ nodesFrom nodes before rest
-  pub on : (x y layer : ℕ) → known nodes x y layer ≡ passes (again.standsAt x y layer layer) done
-  pub at : (x y : ℕ) → knownAt nodes x y ≡ passes (again.standsAt x y 0 255) done
+  pub on : (x y layer : ℕ) → known nodes x y layer ≡ passes (standsWithin x y layer layer) done
+  pub at : (x y : ℕ) → knownAt nodes x y ≡ passes (standsWithin x y 0 255) done
   pub some : 0 < points → 0 < length nodes
   pub counts : count ≡ counted (length nodes)
   pub follows : length nodes ≤ mostNodes → last ≡ numberOn nodes (before .x) (before .y) (before .layer)
-  pub holds : Holds nodes table
+  pub holds : TableHolds nodes table
 
 -- a point was taken: it is refused, or reading goes on behind it
 abbrev pub Took : List Point → List Point → ℕ → Point → Taken → List ℕ → Type 0
@@ -70,7 +70,7 @@ pub reached-more : {all rest : List Point} {p : Point} {points count last : ℕ}
     → (count′ last′ : ℕ) (table′ : List ℕ)
     → count′ ≡ counted (length (reach (r .nodes) (r .before) p))
     → (length (reach (r .nodes) (r .before) p) ≤ mostNodes → last′ ≡ numberOn (r .nodes) (p .x) (p .y) (p .layer))
-    → Holds (reach (r .nodes) (r .before) p) table′
+    → TableHolds (reach (r .nodes) (r .before) p) table′
     → Reached all rest (points + 1) count′ last′ table′
 unfolding pointsRefusal nodesFrom
 reached-more {rest} {p} r u h count′ last′ table′ c l t =
@@ -83,9 +83,9 @@ reached-more {rest} {p} r u h count′ last′ table′ c l t =
       refused = r .refused ∙ rw u;
       found = r .found;
       on = λ x y layer.
-          rw (passes-more (again.standsAt x y layer layer) (r .done) p, ← r .on x y layer) (known-reach (r .nodes) (r .before) p x y layer);
+          rw (passes-more (standsWithin x y layer layer) (r .done) p, ← r .on x y layer) (known-reach (r .nodes) (r .before) p x y layer);
       at = λ x y.
-          rw (passes-more (again.standsAt x y 0 255) (r .done) p, ← r .at x y) (known-at-reach (r .nodes) (r .before) p x y h);
+          rw (passes-more (standsWithin x y 0 255) (r .done) p, ← r .at x y) (known-at-reach (r .nodes) (r .before) p x y h);
       some = λ o. some-reached (r .nodes) (r .before) p;
       counts = c;
       follows = λ o. l o ∙ sym (number-reach (r .nodes) (r .before) p);

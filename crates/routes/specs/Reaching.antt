@@ -12,7 +12,7 @@ use borrow.Author.Tests.{eq-eqb, lt-ltb, le-ltb, eqb-true, eqb-false, ltb-false}
 use Rattle.laws.specs.Sum.{any}
 use Rattle.laws.specs.Sums.{by, and-intro, and-left, and-right, and-comm, and-true, or-left, or-right, or-false, any-ap, any-next, any-yes, any-no, any-some, lowest-is, lowest-none, lowest-≤}
 use Rattle.paths.specs.declared.Point.{Point}
-use Rattle.paths.specs.Again as again
+use Rattle.paths.specs.Again.{standsWithin}
 use Rattle.routes.specs.Nodes.{Node, noNode, nodeAt, standsAt, standsOn, known, knownAt, numberOn, lowestAt, madeBy, reach}
 
 -- some node passes a test
@@ -87,10 +87,10 @@ module _ (nodes : List Node) (before p : Point) where
       (λ k. rw (reach-new k, some-more f nodes (madeBy nodes before p), h (madeBy nodes before p) refl refl refl))
 
   -- a point is known on a layer, or on some layer, once a point of the text stood there
-  pub known-reach : (x y layer : ℕ) → known (reach nodes before p) x y layer ≡ (known nodes x y layer || again.standsAt x y layer layer p)
-  unfolding known again.standsAt
+  pub known-reach : (x y layer : ℕ) → known (reach nodes before p) x y layer ≡ (known nodes x y layer || standsWithin x y layer layer p)
+  unfolding known standsWithin
   known-reach x y layer =
-      some-reach (standsOn x y layer) (again.standsAt x y layer layer p)
+      some-reach (standsOn x y layer) (standsWithin x y layer layer p)
       (λ n a b c. rw (a, b, c, same-layer (p .layer) layer) (last-first (eqb (p .x) x) (eqb (p .y) y) (not (ltb (p .layer) layer) && not (ltb layer (p .layer)))))
     where
       last-first : (a b c : Bool) → (c && (a && b)) ≡ (a && (b && c))
@@ -98,10 +98,10 @@ module _ (nodes : List Node) (before p : Point) where
       last-first false b true = refl
       last-first false b false = refl
 
-  pub known-at-reach : (x y : ℕ) → p .layer < 256 → knownAt (reach nodes before p) x y ≡ (knownAt nodes x y || again.standsAt x y 0 255 p)
-  unfolding knownAt again.standsAt
+  pub known-at-reach : (x y : ℕ) → p .layer < 256 → knownAt (reach nodes before p) x y ≡ (knownAt nodes x y || standsWithin x y 0 255 p)
+  unfolding knownAt standsWithin
   known-at-reach x y h =
-      some-reach (standsAt x y) (again.standsAt x y 0 255 p)
+      some-reach (standsAt x y) (standsWithin x y 0 255 p)
       (λ n a b c. rw (a, b, le-ltb (p .layer) 0 (omega arith), le-ltb 255 (p .layer) (omega arith), and-true (eqb (p .y) y)))
 
   -- the number of the point's node is the one it gets
@@ -126,7 +126,7 @@ module _ (nodes : List Node) (before p : Point) where
 
   -- the point is known then
   pub reached-known : known (reach nodes before p) (p .x) (p .y) (p .layer) ≡ true
-  unfolding again.standsAt
+  unfolding standsWithin
   reached-known =
       rw (
         known-reach (p .x) (p .y) (p .layer),

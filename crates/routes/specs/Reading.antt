@@ -15,7 +15,7 @@ use Rattle.paths.specs.declared.Read.{Read}
 use Rattle.paths.specs.declared.Read.the-variants.{Wrong, End, Whole}
 use Rattle.paths.specs.Form.{beginning, behind, start, readPoints, readEnding, pointsOf, endingOf}
 use Rattle.paths.specs.FormLaws.{Sound, left, start-sound, sound-step, left-most, behind-left, points-step, ending-step, points-wrong, points-end, ending-wrong, ending-end, end-points}
-use Rattle.routes.specs.Nodes.{noPoint, pointsRefusal, routeRefusal, routeEnd, endOf, formRefusal, nodesOf, nodesFrom}
+use Rattle.routes.specs.Nodes.{noPoint, pointsRefusal, routeRefusal, routeEnd, endOf, formRefusal, routeNodes, nodesFrom}
 use Rattle.routes.specs.Table.{counted, RouteRead}
 use Rattle.routes.specs.Reached.{Reached, start-reached}
 
@@ -73,7 +73,7 @@ module _ (text : List ℕ) (place : ℕ) where
 
       -- the end
       pub route-end : {next : ℕ} → read ≡ End next → RouteRead text place (record { number = 0; place = next; points = points; count = count; nodes = table })
-      unfolding routeRefusal routeEnd endOf pointsRefusal formRefusal nodesOf nodesFrom
+      unfolding routeRefusal routeEnd endOf pointsRefusal formRefusal routeNodes nodesFrom
       route-end {next} q =
           let s = rw (q, points-end text (suc (length text)) next) at (r .state) in
           let f : endingOf text place ≡ End next = rw q at (r .ending) ∙ ending-end text (suc (length text)) next in

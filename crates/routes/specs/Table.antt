@@ -12,7 +12,7 @@ use Rattle.paths.specs.declared.Point.{Point}
 use Rattle.paths.specs.Form.{pointsOf}
 use Rattle.routes.specs.declared.Route.{Route}
 use Rattle.routes.specs.declared.Placed.{Placed}
-use Rattle.routes.specs.Nodes.{Node, nodeAt, known, numberOn, lowestAt, higher, pointRefused, routeRefusal, nodesOf, routeEnd}
+use Rattle.routes.specs.Nodes.{Node, nodeAt, known, numberOn, lowestAt, higher, pointRefused, routeRefusal, routeNodes, routeEnd}
 
 -- a node in one number: x, y, layer, parent, layer of its wire
 abbrev pub packed : ℕ → ℕ → ℕ → ℕ → ℕ → ℕ
@@ -30,7 +30,7 @@ pub record Fits (n : Node) : Type 0 where
   pub wire : n .wire < 256
 
 -- the table has the first nodes
-pub record Holds (nodes : List Node) (table : List ℕ) : Type 0 where
+pub record TableHolds (nodes : List Node) (table : List ℕ) : Type 0 where
   pub entries : (i : ℕ) → i < length nodes → i < mostNodes → getD table i 0 ≡ entry (nodeAt nodes i)
   pub fits : (i : ℕ) → i < length nodes → i < mostNodes → Fits (nodeAt nodes i)
 
@@ -55,6 +55,6 @@ pub record RouteRead (text : List ℕ) (from : ℕ) (r : Route) : Type 0 where
   pub number : r .number ≡ routeRefusal text from .number
   pub place : r .place ≡ cond (met (routeRefusal text from)) (routeRefusal text from .place) (routeEnd text from)
   pub points : met (routeRefusal text from) ≡ false → r .points ≡ length (pointsOf text from)
-  pub count : met (routeRefusal text from) ≡ false → r .count ≡ counted (length (nodesOf text from))
+  pub count : met (routeRefusal text from) ≡ false → r .count ≡ counted (length (routeNodes text from))
   pub some : met (routeRefusal text from) ≡ false → 0 < r .count
-  pub table : met (routeRefusal text from) ≡ false → Holds (nodesOf text from) (r .nodes)
+  pub table : met (routeRefusal text from) ≡ false → TableHolds (routeNodes text from) (r .nodes)

@@ -12,10 +12,10 @@ use Rattle.laws.specs.Sums.{by, no-both}
 use Rattle.net.specs.Layout.{mostNodes}
 use Rattle.paths.specs.declared.Point.{Point}
 use Rattle.paths.specs.Form.{pointsOf}
-use Rattle.paths.specs.Again.{standsAt, firstRead}
+use Rattle.paths.specs.Again.{standsWithin, firstRead}
 use Rattle.paths.specs.AgainLaws.{first-some, first-none}
 use Rattle.routes.specs.Nodes.{known, numberOn, madeBy, reach, pointRefused}
-use Rattle.routes.specs.Table.{packed, Holds, counted, placed}
+use Rattle.routes.specs.Table.{packed, TableHolds, counted, placed}
 use Rattle.routes.specs.Reaching.{length-more, reach-known, reach-new, length-reach}
 use Rattle.routes.specs.Holding.{holds-past, holds-stored, made-fits}
 use Rattle.routes.specs.Reached.{Reached, Took, here-refused, reached-more}
@@ -62,7 +62,7 @@ module _ {all rest : List Point} {p : Point} {points count last : ℕ} {table : 
 
     -- a node more, past the table or in it
     module _ (j : pointRefused (r .nodes) p ≡ false) (k : known (r .nodes) (p .x) (p .y) (p .layer) ≡ false) where
-      took-more : (table′ : List ℕ) → count ≤ mostNodes → Holds (r .nodes ++ (madeBy (r .nodes) (r .before) p ∷ [])) table′
+      took-more : (table′ : List ℕ) → count ≤ mostNodes → TableHolds (r .nodes ++ (madeBy (r .nodes) (r .before) p ∷ [])) table′
           → Took all rest points p (record { refused = false; count = count + 1; last = numberOn (r .nodes) (p .x) (p .y) (p .layer) }) table′
       took-more table′ h s =
           let e = reach-new (r .nodes) (r .before) p k in (
@@ -110,8 +110,8 @@ took-again text place {rest} {p} r b h e =
       e,
       r .split,
       r .many,
-      first-none (standsAt (p .x) (p .y) 0 255) (r .done) (p ∷ rest),
-      first-some (standsAt (p .x) (p .y) (p .layer) (p .layer)) (r .done) (p ∷ rest),
+      first-none (standsWithin (p .x) (p .y) 0 255) (r .done) (p ∷ rest),
+      first-some (standsWithin (p .x) (p .y) (p .layer) (p .layer)) (r .done) (p ∷ rest),
       ← r .at (p .x) (p .y),
       ← r .on (p .x) (p .y) (p .layer),
       ne-eqb (length (r .nodes)) 0 (λ z. omega arith),

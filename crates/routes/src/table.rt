@@ -7,7 +7,7 @@ ghost use mathlib.Core.List.{List};
 ghost use Prim.Native.Nat.{ℕ, _+_, _*_, _/_, _%_, _≤_, _<_};
 ghost use lib.ListN.{length};
 ghost use Rattle.routes.specs.Nodes.{Node, numberOn, lowestAt, higher};
-ghost use Rattle.routes.specs.Table.{packed, Holds, placed};
+ghost use Rattle.routes.specs.Table.{packed, TableHolds, placed};
 
 // What y, layer, parent and the wire's layer are multiplied by in an entry.
 const Y: u64 = 65536;
@@ -21,7 +21,7 @@ pub const WIRE: u64 = 281474976710656;
 // A point among the nodes found so far.
 pub fn place_point(nodes: &[u64], count: usize, last: usize, p: Point) -> Placed
     requires { ⌜ (count ≤ length (now nodes)) × (count ≤ 256) ⌝ }
-    ensures { λ r. ⌜ ((found : List Node) → length found ≡ count → Holds found (now (nodes .entry)) → r ≡ placed found last p) ⌝ }
+    ensures { λ r. ⌜ ((found : List Node) → length found ≡ count → TableHolds found (now (nodes .entry)) → r ≡ placed found last p) ⌝ }
 {
     let node = node_on(nodes, count, p.x, p.y, p.layer);
     if p.first {
@@ -39,7 +39,7 @@ pub fn place_point(nodes: &[u64], count: usize, last: usize, p: Point) -> Placed
 // A path's first point among the nodes found so far; `node` is its number on the path's layer.
 fn place_first(nodes: &[u64], count: usize, node: usize, p: Point) -> Placed
     requires { ⌜ (count ≤ length (now nodes)) × (count ≤ 256) ⌝ }
-    ensures { λ r. ⌜ ((found : List Node) (last : ℕ) → length found ≡ count → Holds found (now (nodes .entry)) → node ≡ numberOn found (p .x) (p .y) (p .layer) → p .first ≡ true → r ≡ placed found last p) ⌝ }
+    ensures { λ r. ⌜ ((found : List Node) (last : ℕ) → length found ≡ count → TableHolds found (now (nodes .entry)) → node ≡ numberOn found (p .x) (p .y) (p .layer) → p .first ≡ true → r ≡ placed found last p) ⌝ }
 {
     let layer = p.layer;
     let via = node_at(nodes, count, p.x, p.y);
@@ -64,7 +64,7 @@ fn place_first(nodes: &[u64], count: usize, node: usize, p: Point) -> Placed
 // The number of the node at x, y on a layer, or count where there is none.
 pub fn node_on(nodes: &[u64], count: usize, x: u16, y: u16, layer: u8) -> usize
     requires { ⌜ (count ≤ length (now nodes)) × (count ≤ 256) ⌝ }
-    ensures { λ r. ⌜ (r ≤ count) × ((found : List Node) → length found ≡ count → Holds found (now (nodes .entry)) → r ≡ numberOn found x y layer) ⌝ }
+    ensures { λ r. ⌜ (r ≤ count) × ((found : List Node) → length found ≡ count → TableHolds found (now (nodes .entry)) → r ≡ numberOn found x y layer) ⌝ }
 {
     let wanted = pack_point(x, y) + LAYER * (layer as u64);
     let mut i = 0;
@@ -80,7 +80,7 @@ pub fn node_on(nodes: &[u64], count: usize, x: u16, y: u16, layer: u8) -> usize
 // The lowest number of a node at x, y, or count where there is none.
 fn node_at(nodes: &[u64], count: usize, x: u16, y: u16) -> usize
     requires { ⌜ (count ≤ length (now nodes)) × (count ≤ 256) ⌝ }
-    ensures { λ r. ⌜ (r ≤ count) × ((found : List Node) → length found ≡ count → Holds found (now (nodes .entry)) → r ≡ lowestAt found x y) ⌝ }
+    ensures { λ r. ⌜ (r ≤ count) × ((found : List Node) → length found ≡ count → TableHolds found (now (nodes .entry)) → r ≡ lowestAt found x y) ⌝ }
 {
     let wanted = pack_point(x, y);
     let mut i = 0;

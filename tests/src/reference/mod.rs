@@ -1,5 +1,6 @@
-//! Document 01 once more, written from its words alone and as plainly as possible.
+//! Document 01 and routes from DEF once more, written from their words alone and as plainly as possible.
 
+pub mod def;
 pub mod net;
 pub mod repair;
 pub mod report;

@@ -2,8 +2,10 @@
 //!
 //! The first byte chooses the call, the next few its numbers and lengths, the rest are its slices.
 
+use super::def::compare as compare_def;
 use super::repair::compare;
 use super::report::compare_report;
+use crate::generate::def::{any_case, Case};
 use crate::generate::{any_file, damaged_sections, jumper_list, limit, small_case, stage};
 use crate::library;
 use crate::library::REPAIR_MOST;
@@ -41,7 +43,7 @@ impl<'a> Input<'a> {
 /// Makes the call that the bytes say; the answer with the number of the call.
 pub fn one(bytes: &[u8]) -> (u8, Answer) {
     let mut input = Input(bytes);
-    let call = input.byte() % 4;
+    let call = input.byte() % 5;
     let answer = match call {
         0 => {
             let answer = library::read(input.0);
@@ -69,7 +71,7 @@ pub fn one(bytes: &[u8]) -> (u8, Answer) {
             let list = input.slice(list_length);
             compare_report(library::report, stage, limit, input.0, list, lent)
         }
-        _ => {
+        3 => {
             let (stage, limit) = (input.number(1), input.number(4));
             let file = input.0;
             let mut out = vec![0x3c; REPAIR_MOST];
@@ -86,13 +88,24 @@ pub fn one(bytes: &[u8]) -> (u8, Answer) {
             }
             answer
         }
+        _ => {
+            let (lent, place) = (input.number(2) as usize, input.number(2) as usize);
+            let (pins, obstacles) = (input.number(2) as usize, input.number(2) as usize);
+            let case = Case {
+                place,
+                pins: input.slice(pins).into(),
+                obstacles: input.slice(obstacles).into(),
+                text: input.0.into(),
+            };
+            compare_def(library::def, &case, lent)
+        }
     };
     (call, answer)
 }
 
 /// A good or damaged input from the generators.
 pub fn seed(random: &mut Random) -> Vec<u8> {
-    let call = random.below(4) as u8;
+    let call = random.below(5) as u8;
     let mut bytes = vec![call];
     let two = |n: usize| (n as u16).to_le_bytes();
     match call {
@@ -105,6 +118,7 @@ pub fn seed(random: &mut Random) -> Vec<u8> {
             bytes.extend(two(wires.len()));
             bytes.extend([nodes, wires, obstacles].concat());
         }
+        4 => bytes.extend(def_seed(&any_case(random), random.below(150) as usize)),
         _ => {
             let (net, mut at, mut most) = small_case(random, 40);
             if random.chance(1, 3) {
@@ -129,6 +143,18 @@ pub fn seed(random: &mut Random) -> Vec<u8> {
             bytes.extend(file);
         }
     }
+    bytes
+}
+
+/// A call of def with this many bytes lent, as the input behind its first byte.
+fn def_seed(case: &Case, lent: usize) -> Vec<u8> {
+    let mut bytes = Vec::new();
+    for number in [lent, case.place, case.pins.len(), case.obstacles.len()] {
+        bytes.extend((number.min(65535) as u16).to_le_bytes());
+    }
+    bytes.extend(&case.pins);
+    bytes.extend(&case.obstacles);
+    bytes.extend(&case.text);
     bytes
 }
 

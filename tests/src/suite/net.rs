@@ -3,6 +3,7 @@
 use crate::generate::{any_file, any_net, damage_file, damaged_sections, net, Shape};
 use crate::random::Random;
 use crate::reference::net::{file, read as expected_read, write as expected_write, Net};
+use crate::zeros::{Zeros, WHOLE};
 use crate::{Answer, Read, Write};
 
 fn largest_net(random: &mut Random) -> Net {
@@ -220,45 +221,6 @@ pub fn heads_at_the_edges(read: Read, cases: usize) {
     }
     assert!(met[3] * 2 > cases);
 }
-
-/// Bytes that are all 0 and take no memory until they are written.
-struct Zeros {
-    start: *mut u8,
-    length: usize,
-}
-
-extern "C" {
-    fn mmap(
-        at: *mut u8,
-        length: usize,
-        protection: i32,
-        flags: i32,
-        file: i32,
-        from: i64,
-    ) -> *mut u8;
-    fn munmap(at: *mut u8, length: usize) -> i32;
-}
-
-impl Zeros {
-    fn new(length: usize) -> Zeros {
-        // read and write; private, of no file, nothing set aside
-        let start = unsafe { mmap(std::ptr::null_mut(), length, 3, 0x4022, -1, 0) };
-        assert!(start as isize != -1, "no room for {length} bytes");
-        Zeros { start, length }
-    }
-
-    fn bytes(&mut self) -> &mut [u8] {
-        unsafe { std::slice::from_raw_parts_mut(self.start, self.length) }
-    }
-}
-
-impl Drop for Zeros {
-    fn drop(&mut self) {
-        unsafe { munmap(self.start, self.length) };
-    }
-}
-
-const WHOLE: usize = 1 << 32;
 
 /// Files of more than 2^32 bytes: nothing of a length is lost.
 pub fn very_long_files(read: Read) {

@@ -4,11 +4,12 @@ use crate::specs::{Definition, Specs};
 use crate::{table_of_trust, theorems};
 use std::collections::{BTreeMap, BTreeSet};
 
-const CALLS: [&str; 4] = [
+const CALLS: [&str; 5] = [
     "antenna_read",
     "antenna_write",
     "antenna_report",
     "antenna_repair",
+    "antenna_def",
 ];
 
 /// The cells of a table, behind the first of each row.
@@ -47,7 +48,7 @@ fn definitions_to_read() {
         expected.insert(format!("`{file}`"), lines(&|one| one.0 == *file));
     }
     let rows = table_of_trust("file").into_iter();
-    let said = rows.map(|row| (row[0].clone(), row[1..6].to_vec()));
+    let said = rows.map(|row| (row[0].clone(), row[1..7].to_vec()));
     compare(said.collect(), expected);
     for file in files {
         for one in specs.all_of(file) {

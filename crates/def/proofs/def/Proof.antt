@@ -8,7 +8,7 @@ use Rattle.laws.specs.Lists.{zeros}
 use Rattle.net.specs.Layout.{mostNodes}
 use Rattle.net.specs.Refusal.{met}
 use Rattle.net.specs.First.{unmet-number}
-use Rattle.routes.specs.Nodes.{nodesOf, routeRefusal}
+use Rattle.routes.specs.Nodes.{routeNodes, routeRefusal}
 use Rattle.def.specs.Joining.{Routed}
 use Rattle.def.specs.JoiningLaws.{count-few, count-many}
 use Rattle.def.specs.Sectioning.{nodes-written, wires-written}
@@ -101,7 +101,7 @@ returns-4 c =
     let r = routed i in
     let n = t .route-at .result .count in
     let few = c .before .before .before .before .before .before .if3 .left in
-    let e = count-few n (length (nodesOf (a .text .now) (a .place))) (r .count) few in
+    let e = count-few n (length (routeNodes (a .text .now) (a .place))) (r .count) few in
     let f = j .join-pins .ensures .1 (unmet-number (j .join-pins .result) (z .if2 .left)) in
     answered-written _ _ _ _ _ (unmet (i .before)) _ (j .join-pins .ensures .0) (z .if2 .left) (nodes-written (r .holds) n few e f) (wires-written (r .holds) n few e) (route-end (t .route-at .ensures) (i .before .if1 .left)) (c .before .before .write-net .ensures)
 

@@ -5,7 +5,7 @@ use mathlib.Core.Path.{_≡_, sym, _∙_, ap}
 use mathlib.Core.List.{List}
 use lib.ListN.{length, take}
 use Rattle.net.specs.Layout.{nodeBytes, wireBytes}
-use Rattle.def.specs.Written.{nodesFrom, wiresFrom}
+use Rattle.def.specs.Written.{tableNodes, tableWires}
 use Rattle.def.specs.WrittenLaws.{length-nodes, length-wires, written-taken}
 use borrow.Author.Needs.{needs}
 use Rattle.def.proofs.write_net.Statement.{statement}
@@ -15,10 +15,10 @@ abbrev start : tie.After-write-nodes → tie.Start
 start c = c .before .before .before .before .before .before
 
 abbrev nodes : tie.Start → List ℕ
-nodes s = nodesFrom (s .args .nodes .now) (s .args .flags .now) (s .args .count)
+nodes s = tableNodes (s .args .nodes .now) (s .args .flags .now) (s .args .count)
 
 abbrev wires : tie.Start → List ℕ
-wires s = wiresFrom (s .args .nodes .now) (s .args .count - 1)
+wires s = tableWires (s .args .nodes .now) (s .args .count - 1)
 
 -- the parts that are handed on are the sections
 nodes-taken : (c : tie.After-write-nodes) → take (nodeBytes * start c .args .count) (c .write-nodes .last .1 .1 .1 .0) ≡ nodes (start c)

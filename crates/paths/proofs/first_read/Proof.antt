@@ -3,7 +3,7 @@
 use Prim.Native.Nat.{_-_}
 use mathlib.Core.Path.{_∙_, sym}
 use native.Mathlib.Omega.{arith}
-use Rattle.paths.specs.Again.{standsAt, firstRead}
+use Rattle.paths.specs.Again.{standsWithin, firstRead}
 use Rattle.paths.specs.AgainLaws.{Searching, search-start, search-here, search-on, search-wrong, search-end, search-none}
 use borrow.Author.Needs.{needs}
 use Rattle.paths.proofs.first_read.Statement.{statement}
@@ -11,7 +11,7 @@ use Rattle.paths.proofs.first_read.Tie as tie
 
 abbrev Inv-loop : tie.InvT-loop
 Inv-loop text place points x y low high read₀ k₀ read k =
-    Searching text (standsAt x y low high) points k (firstRead text place points x y low high) read
+    Searching text (standsWithin x y low high) points k (firstRead text place points x y low high) read
 
 abbrev μ-loop : tie.MeasureT-loop
 μ-loop text place points x y low high read₀ k₀ read k = points - k

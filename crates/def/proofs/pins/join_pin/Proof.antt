@@ -8,7 +8,7 @@ use lib.Dec.{ltb}
 use lib.ListN.{length}
 use borrow.Author.Tests.{lt-ltb, le-ltb}
 use Rattle.laws.specs.Sums.{no-both}
-use Rattle.routes.specs.Nodes.{known, numberOn, nodesOf}
+use Rattle.routes.specs.Nodes.{known, numberOn, routeNodes}
 use Rattle.routes.specs.KnownRead.{known-read}
 use Rattle.def.specs.Pins.{pinX, pinY, pinLayer}
 use Rattle.def.specs.JoiningLaws.{count-few, count-many, number-known, joined-one}
@@ -21,10 +21,10 @@ start c = c .before .before .before .before .before .before .before .before .bef
 
 -- the node that the pin meets, and whether it meets one
 abbrev number : tie.Start → ℕ
-number s = let p = s .args .pins .now in numberOn (nodesOf (s .args .text .now) (s .args .place)) (pinX p 0) (pinY p 0) (pinLayer p 0)
+number s = let p = s .args .pins .now in numberOn (routeNodes (s .args .text .now) (s .args .place)) (pinX p 0) (pinY p 0) (pinLayer p 0)
 
 abbrev meets : tie.Start → Bool
-meets s = let p = s .args .pins .now in known (nodesOf (s .args .text .now) (s .args .place)) (pinX p 0) (pinY p 0) (pinLayer p 0)
+meets s = let p = s .args .pins .now in known (routeNodes (s .args .text .now) (s .args .place)) (pinX p 0) (pinY p 0) (pinLayer p 0)
 
 shared-slice-read-number16 : tie.Need-shared-slice-read-number16
 shared-slice-read-number16 c = search needs
@@ -60,14 +60,14 @@ returns c =
     let e = c .read-again-at .ensures in
     let n = s .pre .0 .points in
     let k = known-read (a .text .now) (a .place) (pinX p 0) (pinY p 0) (pinLayer p 0) in
-    let m = count-many (a .count) (length (nodesOf (a .text .now) (a .place))) (s .pre .0 .count) (c .before .if1 .taken) in
+    let m = count-many (a .count) (length (routeNodes (a .text .now) (a .place))) (s .pre .0 .count) (c .before .if1 .taken) in
     (cc, λ t. record { each = λ few. absurd (omega arith) })
 
 node-on-requires : tie.Need-node-on-requires
 node-on-requires c κs = search needs
 
 -- they are what is found in the table
-all-counted : (c : tie.Else1) → start (c .before) .args .count ≡ length (nodesOf (start (c .before) .args .text .now) (start (c .before) .args .place))
+all-counted : (c : tie.Else1) → start (c .before) .args .count ≡ length (routeNodes (start (c .before) .args .text .now) (start (c .before) .args .place))
 all-counted c = count-few _ _ (start (c .before) .pre .0 .count) (c .if1 .left)
 
 node-right : (c : tie.After-node-on) → c .node-on .result ≡ number (start (c .before .before))

@@ -8,7 +8,7 @@ use borrow.Author.Tests.{not-true, not-false}
 use Rattle.laws.specs.Sums.{no-both}
 use Rattle.net.specs.Refusal.{none, met, firstOf}
 use Rattle.net.specs.First.{first-start, first-more, first-here, first-all}
-use Rattle.routes.specs.Nodes.{nodesOf}
+use Rattle.routes.specs.Nodes.{routeNodes}
 use Rattle.def.specs.Pins.{pinBytes, pinRefusal, pinsRefusal}
 use Rattle.def.specs.Joining.{Joined}
 use Rattle.def.specs.JoiningLaws.{part-known, joined-start, joined-more, pin-here, pin-all, pin-cut, pin-lost, pin-right}
@@ -18,8 +18,8 @@ use Rattle.def.proofs.pins.join_pins.Tie as tie
 
 abbrev Inv-loop : tie.InvT-loop
 Inv-loop text place points nodes count pins flags₀ at₀ k₀ flags at k =
-    (at ≡ pinBytes * k) × (at ≤ length pins) × (length flags ≡ length flags₀) × (none ≡ firstOf k (λ j. pinRefusal (nodesOf text place) pins j))
-    × Joined (nodesOf text place) pins k flags
+    (at ≡ pinBytes * k) × (at ≤ length pins) × (length flags ≡ length flags₀) × (none ≡ firstOf k (λ j. pinRefusal (routeNodes text place) pins j))
+    × Joined (routeNodes text place) pins k flags
 
 abbrev μ-loop : tie.MeasureT-loop
 μ-loop text place points nodes count pins flags₀ at₀ k₀ flags at k = length pins - at
@@ -70,7 +70,7 @@ returns-2 c =
     let a = j .before .before .before .before .before .before .before .before .before .before .args in
     let p = a .pins .now in
     let m = c .refused2 .ensures in
-    let k = sym (part-known p (l .k) (l .at) (l .inv .0) (omega arith) (nodesOf (a .text .now) (a .place))) ∙ (sym (j .join-pin .ensures .0) ∙ not-true _ (c .before .if2 .taken)) in
+    let k = sym (part-known p (l .k) (l .at) (l .inv .0) (omega arith) (routeNodes (a .text .now) (a .place))) ∙ (sym (j .join-pin .ensures .0) ∙ not-true _ (c .before .if2 .taken)) in
     (first-here _ _ _ (pin-here p (l .k) (omega arith)) (l .inv .3) (m ∙ pin-lost _ _ _ k) (ap met m), λ u. absurd (no-both (ap met m) u))
 
 add-at : tie.Need-add-at Inv-loop μ-loop
@@ -89,7 +89,7 @@ loop-again c =
     let a = j .before .before .before .before .before .before .before .before .before .before .args in
     let p = a .pins .now in
     let t = not-false _ (c .if2 .left) in
-    let k = sym (part-known p (l .k) (l .at) (l .inv .0) (omega arith) (nodesOf (a .text .now) (a .place))) ∙ (sym (j .join-pin .ensures .0) ∙ t) in (
+    let k = sym (part-known p (l .k) (l .at) (l .inv .0) (omega arith) (routeNodes (a .text .now) (a .place))) ∙ (sym (j .join-pin .ensures .0) ∙ t) in (
       omega arith,
       omega arith,
       search needs,

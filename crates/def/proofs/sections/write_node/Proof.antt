@@ -4,7 +4,7 @@ use native.Mathlib.Omega.{arith}
 use lib.ListN.{length-set}
 use lib.Seq.{sets-eq}
 use borrow.Author.Needs.{needs}
-use Rattle.def.specs.Written.{nodeFrom}
+use Rattle.def.specs.Written.{entryNode}
 use Rattle.def.proofs.sections.write_node.Statement.{statement}
 use Rattle.def.proofs.sections.write_node.Tie as tie
 
@@ -39,7 +39,7 @@ same-length : tie.Need-same-length
 same-length c = simp length-set
 
 returns : tie.Need-returns
-returns c = sets-eq (nodeFrom (c .args .entry) (c .args .flags)) (c .args .out .now) 0 (omega arith)
+returns c = sets-eq (entryNode (c .args .entry) (c .args .flags)) (c .args .out .now) 0 (omega arith)
 
 pub write-node-spec : {M : Type 1} → statement M
 write-node-spec =

@@ -8,13 +8,13 @@ use Rattle.laws.specs.Lists.{over}
 use Rattle.laws.specs.Gather.{gather}
 use Rattle.net.specs.Layout.{nodeBytes}
 use borrow.Author.Needs.{needs}
-use Rattle.def.specs.Written.{nodeFrom, nodesFrom}
+use Rattle.def.specs.Written.{entryNode, tableNodes}
 use Rattle.def.specs.WrittenLaws.{written-next}
 use Rattle.def.proofs.sections.write_nodes.Statement.{statement}
 use Rattle.def.proofs.sections.write_nodes.Tie as tie
 
 abbrev Inv-loop : tie.InvT-loop
-Inv-loop nodes count flags out₀ i₀ out i = (i ≤ count) × (length out ≡ length out₀) × (out ≡ over (nodesFrom nodes flags i) out₀)
+Inv-loop nodes count flags out₀ i₀ out i = (i ≤ count) × (length out ≡ length out₀) × (out ≡ over (tableNodes nodes flags i) out₀)
 
 abbrev μ-loop : tie.MeasureT-loop
 μ-loop nodes count flags out₀ i₀ out i = count - i
@@ -59,7 +59,7 @@ loop-again c =
     let a = c .before .before .before .before .before .before .before .before .before .before .before .args in (
       omega arith,
       search needs,
-      written-next nodeBytes (λ j. nodeFrom (getD (a .nodes .now) j 0) (getD (a .flags .now) j 0)) (λ j. refl) (l .i) _ (a .out .now) _ _ refl (omega arith) (l .inv .2) (c .before .before .write-node .ensures),
+      written-next nodeBytes (λ j. entryNode (getD (a .nodes .now) j 0) (getD (a .flags .now) j 0)) (λ j. refl) (l .i) _ (a .out .now) _ _ refl (omega arith) (l .inv .2) (c .before .before .write-node .ensures),
     )
 
 same-length : tie.Need-same-length Inv-loop μ-loop
@@ -70,7 +70,7 @@ returns c =
     let a = c .before .before .before .before .before .args in
     let l = c .before .loop in
     let e : l .i ≡ a .count = omega arith in
-    l .inv .2 ∙ ap (λ n. over (nodesFrom (a .nodes .now) (a .flags .now) n) (a .out .now)) e
+    l .inv .2 ∙ ap (λ n. over (tableNodes (a .nodes .now) (a .flags .now) n) (a .out .now)) e
 
 pub write-nodes-spec : {M : Type 1} → statement M
 write-nodes-spec =

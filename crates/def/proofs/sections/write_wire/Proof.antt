@@ -4,7 +4,7 @@ use native.Mathlib.Omega.{arith}
 use lib.ListN.{length-set}
 use lib.Seq.{sets-eq}
 use borrow.Author.Needs.{needs}
-use Rattle.def.specs.Written.{wireFrom}
+use Rattle.def.specs.Written.{entryWire}
 use Rattle.def.proofs.sections.write_wire.Statement.{statement}
 use Rattle.def.proofs.sections.write_wire.Tie as tie
 
@@ -27,7 +27,7 @@ same-length : tie.Need-same-length
 same-length c = simp length-set
 
 returns : tie.Need-returns
-returns c = sets-eq (wireFrom (c .args .entry)) (c .args .out .now) 0 (omega arith)
+returns c = sets-eq (entryWire (c .args .entry)) (c .args .out .now) 0 (omega arith)
 
 pub write-wire-spec : {M : Type 1} → statement M
 write-wire-spec =

@@ -8,13 +8,13 @@ use Rattle.laws.specs.Lists.{over}
 use Rattle.laws.specs.Gather.{gather}
 use Rattle.net.specs.Layout.{wireBytes}
 use borrow.Author.Needs.{needs}
-use Rattle.def.specs.Written.{wireFrom, wiresFrom}
+use Rattle.def.specs.Written.{entryWire, tableWires}
 use Rattle.def.specs.WrittenLaws.{written-next}
 use Rattle.def.proofs.sections.write_wires.Statement.{statement}
 use Rattle.def.proofs.sections.write_wires.Tie as tie
 
 abbrev Inv-loop : tie.InvT-loop
-Inv-loop nodes count out₀ i₀ out i = (i ≤ count) × (length out ≡ length out₀) × (out ≡ over (wiresFrom nodes i) out₀)
+Inv-loop nodes count out₀ i₀ out i = (i ≤ count) × (length out ≡ length out₀) × (out ≡ over (tableWires nodes i) out₀)
 
 abbrev μ-loop : tie.MeasureT-loop
 μ-loop nodes count out₀ i₀ out i = count - i
@@ -59,7 +59,7 @@ loop-again c =
     let a = c .before .before .before .before .before .before .before .before .before .args in (
       omega arith,
       search needs,
-      written-next wireBytes (λ j. wireFrom (getD (a .nodes .now) (j + 1) 0)) (λ j. refl) (l .i) _ (a .out .now) _ _ refl (omega arith) (l .inv .2) (c .before .before .write-wire .ensures),
+      written-next wireBytes (λ j. entryWire (getD (a .nodes .now) (j + 1) 0)) (λ j. refl) (l .i) _ (a .out .now) _ _ refl (omega arith) (l .inv .2) (c .before .before .write-wire .ensures),
     )
 
 same-length : tie.Need-same-length Inv-loop μ-loop
@@ -70,7 +70,7 @@ returns c =
     let a = c .before .before .before .before .args in
     let l = c .before .loop in
     let e : l .i ≡ a .count = omega arith in
-    l .inv .2 ∙ ap (λ n. over (wiresFrom (a .nodes .now) n) (a .out .now)) e
+    l .inv .2 ∙ ap (λ n. over (tableWires (a .nodes .now) n) (a .out .now)) e
 
 pub write-wires-spec : {M : Type 1} → statement M
 write-wires-spec =
