@@ -10,10 +10,11 @@ antenna: charge on the pieces of a routed net, and the fewest jumpers that keep 
   antenna draw NET --limit L         a picture (SVG)
   antenna pack TEXT                  a net in text form to a net file
   antenna unpack NET                 a net file to text form
+  antenna def FILE                   the nets of a router's DEF file, to net files
   antenna --version
 
 A NET is a net file or a net in text form; '-' is standard input. 'antenna COMMAND --help' says more.
-Exit status: 0 fine, 1 a harmful piece or no fix, 2 a file refused, unreadable or unwritable, or wrong use; of several nets the highest.
+Exit status: 0 fine, 1 a harmful piece or no fix, 2 a file or net refused, unreadable or unwritable, or wrong use; of several nets the highest.
 A refusal is printed in words on standard error.
 ";
 
@@ -70,4 +71,20 @@ pub const UNPACK: &str = "\
 antenna unpack NET [-o FILE]
 
 Turns a net file into text form (see 'antenna pack --help').
+";
+
+pub const DEF: &str = "\
+antenna def FILE [-o DIR] [--grid N] [--pins FILE] [--obstacles FILE] [--text]
+
+Reads the nets of a DEF file as routers write it, or in the library's own form, and prints a line for each. A net that is not read
+is named with its line, column and reason, and the others are read. A note tells of a via that stands one step beside its point,
+because the library's form cannot say two changes of layer there: one point of each wire is lost to jumpers.
+  -o DIR           or --output DIR: a net file for each net, DIR/NAME.net; bytes of NAME other than letters, digits, '_', '-'
+                   and '$' are '%' and two digits of base 16
+  --grid N         a step is N units of FILE, and every coordinate a multiple of N
+  --pins FILE      a line 'pin NET at X Y LAYER' for each, then 'gate' and 'source' where they hold; without pins no net has a gate
+  --obstacles FILE a line 'obstacle X1 Y1 to X2 Y2' for each
+  --text           prints the nets that are read in the library's form
+Pins and obstacles have the coordinates of FILE. All nets are moved alike: the lower left corner of the die area becomes 0 0.
+Exit status 2 if a net is not read; a note does not change it.
 ";

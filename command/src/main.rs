@@ -2,6 +2,7 @@
 
 mod case;
 mod commands;
+mod def;
 mod draw;
 mod files;
 mod help;

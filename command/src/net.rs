@@ -102,7 +102,7 @@ impl Net {
         })
     }
 
-    fn of_file(name: &str, file: Vec<u8>) -> Result<Net, Refusal> {
+    pub fn of_file(name: &str, file: Vec<u8>) -> Result<Net, Refusal> {
         let answer = library::read(&file);
         if answer.number != library::DONE {
             return Err(Refusal::at(name, answer));

@@ -14,6 +14,10 @@ pub struct Options {
     limit: Option<u32>,
     pub json: bool,
     pub out: Option<String>,
+    grid: Option<u32>,
+    pub text: bool,
+    pub pins: Option<String>,
+    pub obstacles: Option<String>,
 }
 
 impl Options {
@@ -56,8 +60,13 @@ impl Options {
         next: impl FnOnce() -> Option<&'a str>,
     ) -> Result<(), Failure> {
         let usage = |what: String| Failure::Usage(format!("{name} {what}"));
-        if name == "--json" {
-            self.json = true;
+        let flag = match name {
+            "--json" => Some(&mut self.json),
+            "--text" => Some(&mut self.text),
+            _ => None,
+        };
+        if let Some(flag) = flag {
+            *flag = true;
             return match value {
                 Some(_) => Err(usage("takes no value".into())),
                 None => Ok(()),
@@ -72,6 +81,9 @@ impl Options {
             "--limit" => self.limit.replace(value_of()? as u32).is_some(),
             "--stage" => self.stage.replace(value_of()? as u32).is_some(),
             "--output" => self.out.replace(value.into()).is_some(),
+            "--grid" => self.grid.replace(value_of()? as u32).is_some(),
+            "--pins" => self.pins.replace(value.into()).is_some(),
+            "--obstacles" => self.obstacles.replace(value.into()).is_some(),
             _ => {
                 self.jumpers.push(value.into());
                 false
@@ -93,12 +105,16 @@ impl Options {
         } else if lists > 1 && lists != nets {
             let (nets, lists) = (count(nets, "net"), count(lists, "jumper list"));
             format!("{lists} for {nets}: name one for all, or one for each")
+        } else if self.grid == Some(0) {
+            "--grid is at least 1".into()
         } else if command.wants_list && lists == 0 {
             format!("'{}' wants a jumper list: --jumpers FILE", command.name)
         } else if self
             .nets
             .iter()
             .chain(&self.jumpers)
+            .chain(&self.pins)
+            .chain(&self.obstacles)
             .filter(|name| *name == "-")
             .count()
             > 1
@@ -112,6 +128,11 @@ impl Options {
 
     pub fn stage(&self) -> u32 {
         self.stage.unwrap_or(DEFAULT_STAGE)
+    }
+
+    /// The units of the file in a step.
+    pub fn grid(&self) -> i64 {
+        self.grid.unwrap_or(1).into()
     }
 
     pub fn limit(&self) -> Result<u32, Failure> {

@@ -162,6 +162,18 @@ fn refusal(answer: Answer) -> String {
             "no set of jumpers will do".into(),
             "raise the limit, move an obstacle, or give the net a source",
         ),
+        library::REFUSED_DEF_FORM => (
+            "the text leaves the library's form".into(),
+            "this is an error in the command: please report it",
+        ),
+        library::REFUSED_DEF_POINT => (
+            "a path begins at an unknown point, or reaches one twice".into(),
+            "this is an error in the command: please report it",
+        ),
+        library::REFUSED_DEF_PIN => (
+            format!("pin {place} of the net: no wire of the net and no via is there on this layer"),
+            "name a point and a layer of the net",
+        ),
         _ => (
             format!("{place} bytes are needed"),
             "this is an error in the command: please report it",

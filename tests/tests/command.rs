@@ -310,7 +310,16 @@ fn jumper_lists_in_text_form() {
 /// Each command with the options it takes, and with one that it does not.
 #[test]
 fn options_of_each_command() {
-    const VALUED: [&str; 5] = ["--limit", "--stage", "--jumpers", "--output", "-o"];
+    const VALUED: [&str; 8] = [
+        "--limit",
+        "--stage",
+        "--jumpers",
+        "--output",
+        "-o",
+        "--grid",
+        "--pins",
+        "--obstacles",
+    ];
     for (name, taken) in [
         ("report", &["--limit", "--stage", "--jumpers", "--json"][..]),
         ("repair", &["--limit", "--stage", "--json"]),
@@ -321,8 +330,24 @@ fn options_of_each_command() {
         ),
         ("pack", &["--output", "-o"]),
         ("unpack", &["--output", "-o"]),
+        (
+            "def",
+            &[
+                "--output",
+                "-o",
+                "--grid",
+                "--pins",
+                "--obstacles",
+                "--text",
+            ],
+        ),
     ] {
-        for option in [&VALUED[..], &["--json", "--limt", "-x", "--version"]].concat() {
+        for option in [
+            &VALUED[..],
+            &["--json", "--text", "--limt", "-x", "--version"],
+        ]
+        .concat()
+        {
             let word = match VALUED.contains(&option) {
                 true => format!("{option}=7"),
                 false => option.into(),
@@ -391,6 +416,21 @@ fn values_of_options() {
             &["check", "-", "--jumpers=-", "--limit=3"],
             "standard input can be read only once",
         ),
+        (&["def", "a.def", "--grid=0"], "--grid is at least 1"),
+        (&["def", "a.def", "--grid=x"], "--grid wants a number"),
+        (
+            &["def", "a.def", "--pins=x", "--pins=x"],
+            "--pins is given twice",
+        ),
+        (&["def", "a.def", "--text=yes"], "--text takes no value"),
+        (
+            &["def", "-", "--obstacles=-"],
+            "standard input can be read only once",
+        ),
+        (
+            &["def", "a.def", "--pins=-", "--obstacles=-"],
+            "standard input can be read only once",
+        ),
         (&[], "no command given"),
         (&["mend", "a.net"], "there is no command 'mend'"),
     ] {
@@ -407,7 +447,7 @@ fn values_of_options() {
 
 #[test]
 fn help_and_version() {
-    for name in ["report", "repair", "check", "draw", "pack", "unpack"] {
+    for name in ["report", "repair", "check", "draw", "pack", "unpack", "def"] {
         let ran = antenna(&[name, "--help"], &[]);
         assert_eq!(ran.status, 0);
         assert!(
@@ -424,7 +464,17 @@ fn help_and_version() {
     }
     let page = std::fs::read_to_string(root().join("docs/man/antenna.1")).unwrap();
     for word in [
-        "limit", "stage", "jumpers", "json", "output", "help", "version",
+        "limit",
+        "stage",
+        "jumpers",
+        "json",
+        "output",
+        "grid",
+        "pins",
+        "obstacles",
+        "text",
+        "help",
+        "version",
     ] {
         assert!(page.contains(&format!("\\-\\-{word}")), "{word}");
     }

@@ -2,6 +2,7 @@
 
 mod check;
 mod convert;
+mod def;
 mod picture;
 mod repair;
 mod report;
@@ -22,7 +23,7 @@ pub struct Command {
     pub run: fn(&Options) -> Result<u8, Failure>,
 }
 
-pub const COMMANDS: [Command; 6] = [
+pub const COMMANDS: [Command; 7] = [
     Command {
         name: "report",
         help: help::REPORT,
@@ -70,5 +71,13 @@ pub const COMMANDS: [Command; 6] = [
         most: 1,
         wants_list: false,
         run: convert::unpack,
+    },
+    Command {
+        name: "def",
+        help: help::DEF,
+        options: &["--grid", "--obstacles", "--output", "--pins", "--text"],
+        most: 1,
+        wants_list: false,
+        run: def::def,
     },
 ];

@@ -6,12 +6,14 @@ use std::io::Read;
 use std::process::Stdio;
 
 /// Each command, and what it writes when it may.
-const COMMANDS: [&[&str]; 9] = [
+const COMMANDS: [&[&str]; 11] = [
     &["--help"],
     &["--version"],
     &["report", "clock-256.net", "--limit", "13"],
     &["repair", "clock-256.net", "--limit", "13"],
     &["check", "j.net", "--limit", "80", "--jumpers", "/dev/null"],
+    &["def", "../def/own-form.def"],
+    &["def", "../def/own-form.def", "--text"],
     &["draw", "clock-256.net", "--limit", "13"],
     &["pack", "clock-256.net"],
     &["unpack", "clock-256.net"],
@@ -32,7 +34,7 @@ fn standard_output_that_is_full() {
 
 #[test]
 fn files_that_cannot_be_written() {
-    for words in &COMMANDS[5..] {
+    for words in &COMMANDS[7..] {
         for file in ["/dev/full", "no/such/folder/file"] {
             let ran = antenna(&[words, &["-o", file][..]].concat(), &[]);
             assert_eq!(ran.status, 2, "{words:?}: {}", ran.errors);
@@ -70,7 +72,7 @@ fn reader_that_has_gone_away() {
 
 #[test]
 fn written_files_are_what_is_printed() {
-    for words in &COMMANDS[5..] {
+    for words in &COMMANDS[7..] {
         let file = super::stored("written", &[]);
         let written = antenna(&[words, &["--output", &file][..]].concat(), &[]);
         let printed = antenna(words, &[]);
