@@ -4,3 +4,4 @@ pub mod Again
 pub mod Reading
 pub mod FormLaws
 pub mod AgainLaws
+pub mod Order

@@ -10,3 +10,4 @@ pub mod Taking
 pub mod Reading
 pub mod KnownRead
 pub mod Hanging
+pub mod Earlier
