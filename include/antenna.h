@@ -169,6 +169,9 @@ antenna_answer antenna_repair(uint32_t stage, uint32_t limit,
  *
  * Pins: x, y (16 bits each), layer, flags (8 bits each); pins on one node join
  * their flags. Obstacles: the section as in a net file.
+ *
+ * Time: a text of more than 256 nodes is refused by 4 once all of it is read,
+ * and behind the 256th each point, and each pin, has the text read again.
  */
 antenna_answer antenna_def(const uint8_t *text, size_t text_len, size_t place,
                            const uint8_t *pins, size_t pins_len,

@@ -6,6 +6,7 @@ use super::{antenna, folder_of, names_in, read_by_library};
 use antenna_tests::reference::net::net_of;
 use antenna_tests::root;
 use std::fs;
+use std::process::Command;
 
 /// The die begins at -320 -300.
 const MOVED: (i64, i64) = (320, 300);
@@ -200,4 +201,19 @@ fn grid_of_the_router() {
         let steps = net.metal.steps().len();
         assert_eq!(5 * divided.total_weight() as usize, steps, "{}", net.name);
     }
+}
+
+/// The picture in the documents is that of the router's net.
+#[test]
+fn picture_of_a_net() {
+    let folder = folder_of("picture");
+    antenna(&["router.def", "-o", folder.to_str().unwrap()], &[]);
+    let drawn = Command::new(root().join("command/target/release/antenna"))
+        .arg("draw")
+        .arg(folder.join("reset.net"))
+        .args(["--stage", "6", "--limit", "2000"])
+        .output()
+        .unwrap();
+    let stored = fs::read(root().join("docs/reset.svg")).unwrap();
+    assert!(drawn.stdout == stored);
 }
