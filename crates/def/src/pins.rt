@@ -2,6 +2,7 @@
 use net::Refusal;
 use net::answers::none;
 use net::answers::refused;
+use net::fields::u16_at;
 use net::layout::MOST_NODES;
 use routes::reader::read_again_at;
 use routes::table::node_on;
@@ -61,8 +62,8 @@ fn join_pin(
     requires { ⌜ (mostNodes ≤ length (now flags)) × (pinBytes ≤ length (now pins)) ⌝ }
     ensures { λ r. ⌜ (r ≡ known (routeNodes (now (text .entry)) place) (pinX (now (pins .entry)) 0) (pinY (now (pins .entry)) 0) (pinLayer (now (pins .entry)) 0)) × (r ≡ true → JoinedOne (routeNodes (now (text .entry)) place) (now (pins .entry)) (now (flags .entry)) (now (flags .exit))) ⌝ }
 {
-    let x = number16(pins[0], pins[1]);
-    let y = number16(pins[2], pins[3]);
+    let x = u16_at(pins, 0);
+    let y = u16_at(pins, 2);
     let layer = pins[4];
     if MOST_NODES < count {
         return read_again_at(text, place, points, x, y, layer) < points;
@@ -73,10 +74,4 @@ fn join_pin(
     }
     flags[node] = flags[node] | pins[5];
     true
-}
-
-fn number16(low: u8, high: u8) -> u16
-    ensures { λ r. ⌜ r ≡ low + 256 * high ⌝ }
-{
-    (low as u16) + 256 * (high as u16)
 }

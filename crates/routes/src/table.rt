@@ -111,7 +111,7 @@ pub fn pack(p: Point, parent: usize, wire: u8) -> u64
 }
 
 // The layer of an entry.
-pub fn layer_of(entry: u64) -> u8
+fn layer_of(entry: u64) -> u8
     ensures { λ r. ⌜ r ≡ entry / 4294967296 % 256 ⌝ }
 {
     (entry / LAYER % 256) as u8

@@ -16,8 +16,8 @@ use borrow.Author.Needs.{needs}
 use Rattle.def.proofs.pins.join_pin.Statement.{statement}
 use Rattle.def.proofs.pins.join_pin.Tie as tie
 
-abbrev start : tie.After-shared-slice-known8 → tie.Start
-start c = c .before .before .before .before .before .before .before .before .before .before .before
+abbrev start : tie.After-shared-slice-known4 → tie.Start
+start c = c .before .before .before .before .before .before .before
 
 -- the node that the pin meets, and whether it meets one
 abbrev number : tie.Start → ℕ
@@ -26,23 +26,11 @@ number s = let p = s .args .pins .now in numberOn (routeNodes (s .args .text .no
 abbrev meets : tie.Start → Bool
 meets s = let p = s .args .pins .now in known (routeNodes (s .args .text .now) (s .args .place)) (pinX p 0) (pinY p 0) (pinLayer p 0)
 
-shared-slice-read-number16 : tie.Need-shared-slice-read-number16
-shared-slice-read-number16 c = search needs
+u16-at-requires : tie.Need-u16-at-requires
+u16-at-requires c κs = search needs
 
-shared-slice-read-number16-2 : tie.Need-shared-slice-read-number16-2
-shared-slice-read-number16-2 c = search needs
-
-number16-requires : tie.Need-number16-requires
-number16-requires c κs = search needs
-
-shared-slice-read-number16-3 : tie.Need-shared-slice-read-number16-3
-shared-slice-read-number16-3 c = search needs
-
-shared-slice-read-number16-4 : tie.Need-shared-slice-read-number16-4
-shared-slice-read-number16-4 c = search needs
-
-number16-requires-2 : tie.Need-number16-requires-2
-number16-requires-2 c κs = search needs
+u16-at-requires-2 : tie.Need-u16-at-requires-2
+u16-at-requires-2 c κs = search needs
 
 shared-slice-read-layer : tie.Need-shared-slice-read-layer
 shared-slice-read-layer c = search needs
@@ -55,8 +43,8 @@ returns c =
     let s = start (c .before .before) in
     let a = s .args in
     let p = a .pins .now in
-    let x : c .before .before .before .before .before .before .number16 .result ≡ pinX p 0 = c .before .before .before .before .before .before .number16 .ensures in
-    let y : c .before .before .before .number162 .result ≡ pinY p 0 = c .before .before .before .number162 .ensures in
+    let x : c .before .before .before .before .u16-at .result ≡ pinX p 0 = c .before .before .before .before .u16-at .ensures in
+    let y : c .before .before .before .u16-at2 .result ≡ pinY p 0 = c .before .before .before .u16-at2 .ensures in
     let e = c .read-again-at .ensures in
     let n = s .pre .0 .points in
     let k = known-read (a .text .now) (a .place) (pinX p 0) (pinY p 0) (pinLayer p 0) in
@@ -72,7 +60,7 @@ all-counted c = count-few _ _ (start (c .before) .pre .0 .count) (c .if1 .left)
 
 node-right : (c : tie.After-node-on) → c .node-on .result ≡ number (start (c .before .before))
 node-right c =
-    rw (← c .before .before .before .before .before .before .number16 .ensures, ← c .before .before .before .number162 .ensures)
+    rw (← c .before .before .before .before .u16-at .ensures, ← c .before .before .before .u16-at2 .ensures)
     (c .node-on .ensures .1 _ (sym (all-counted (c .before))) (start (c .before .before) .pre .0 .holds))
 
 node-meets : (c : tie.After-node-on) → ltb (c .node-on .result) (start (c .before .before) .args .count) ≡ meets (start (c .before .before))
@@ -105,12 +93,8 @@ pub join-pin-spec : {M : Type 1} → statement M
 join-pin-spec =
     tie.close
     (tie.spec
-    shared-slice-read-number16
-    shared-slice-read-number16-2
-    number16-requires
-    shared-slice-read-number16-3
-    shared-slice-read-number16-4
-    number16-requires-2
+    u16-at-requires
+    u16-at-requires-2
     shared-slice-read-layer
     read-again-at-requires
     returns
