@@ -1,13 +1,9 @@
--- Laws of the sections as they are written: their lengths, and one record more.
+-- Laws of the sections as they are written: their lengths.
 -- Assumes nothing.
-use Prim.Native.Nat.{ℕ, _+_, _-_, _*_, _≤_}
-use mathlib.Core.Path.{_≡_, refl, _∙_, sym, ap}
-use mathlib.Core.List.{List, _++_}
-use native.Mathlib.Numerals.{add-one}
-use lib.ListN.{length, take, drop, getD}
-use lib.Seq.{take-at}
-use Rattle.laws.specs.Lists.{over, over-lent}
-use Rattle.laws.specs.Gather.{gather}
+use Prim.Native.Nat.{ℕ, _+_, _*_}
+use mathlib.Core.Path.{_≡_, refl}
+use mathlib.Core.List.{List}
+use lib.ListN.{length, getD}
 use Rattle.laws.specs.Gathers.{length-records}
 use Rattle.net.specs.Layout.{nodeBytes, wireBytes}
 use Rattle.def.specs.Written.{entryNode, entryWire, tableNodes, tableWires}
@@ -17,14 +13,3 @@ length-nodes table flags = length-records nodeBytes (λ i. entryNode (getD table
 
 pub length-wires : (table : List ℕ) (n : ℕ) → length (tableWires table n) ≡ wireBytes * n
 length-wires table = length-records wireBytes (λ i. entryWire (getD table (i + 1) 0)) (λ i. refl)
-
--- one record more, written into what was lent behind those before
-module _ (w : ℕ) (f : ℕ → List ℕ) (each : (i : ℕ) → length (f i) ≡ w) where
-  pub written-next : (i at : ℕ) (l x y : List ℕ) → at ≡ w * i → at ≤ length l → x ≡ over (gather i f) l → y ≡ over (f i) (take (length x - at) (drop at x))
-      → take at x ++ (y ++ drop (length x - at) (drop at x)) ≡ over (gather (i + 1) f) l
-  unfolding gather
-  written-next i at l x y e h p q = over-lent (gather i f) (f i) l x y at p (length-records w f each i ∙ sym e) h q ∙ ap (λ n. over (gather n f) l) (sym (add-one i))
-
--- what is written is what is taken of it
-pub written-taken : (p l x : List ℕ) (n : ℕ) → x ≡ over p l → length p ≡ n → take n x ≡ p
-written-taken p l x n e h = rw e (take-at p (drop (length p) l) n h)

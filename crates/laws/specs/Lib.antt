@@ -9,3 +9,4 @@ pub mod Gathers
 pub mod Masks
 pub mod Place
 pub mod Indexed
+pub mod Written

@@ -2,6 +2,7 @@ pub mod Piece
 pub mod Legal
 pub mod Name
 pub mod JumperList
+pub mod Barring
 pub mod Real
 pub mod Harmful
 pub mod Rises

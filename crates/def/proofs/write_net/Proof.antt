@@ -4,9 +4,10 @@ use Prim.Native.Nat.{ℕ, _-_, _*_}
 use mathlib.Core.Path.{_≡_, sym, _∙_, ap}
 use mathlib.Core.List.{List}
 use lib.ListN.{length, take}
+use Rattle.laws.specs.Written.{written-taken}
 use Rattle.net.specs.Layout.{nodeBytes, wireBytes}
 use Rattle.def.specs.Written.{tableNodes, tableWires}
-use Rattle.def.specs.WrittenLaws.{length-nodes, length-wires, written-taken}
+use Rattle.def.specs.WrittenLaws.{length-nodes, length-wires}
 use borrow.Author.Needs.{needs}
 use Rattle.def.proofs.write_net.Statement.{statement}
 use Rattle.def.proofs.write_net.Tie as tie

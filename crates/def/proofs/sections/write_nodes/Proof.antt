@@ -6,10 +6,10 @@ use native.Mathlib.Omega.{arith}
 use lib.ListN.{length, getD}
 use Rattle.laws.specs.Lists.{over}
 use Rattle.laws.specs.Gather.{gather}
+use Rattle.laws.specs.Written.{written-next}
 use Rattle.net.specs.Layout.{nodeBytes}
 use borrow.Author.Needs.{needs}
 use Rattle.def.specs.Written.{entryNode, tableNodes}
-use Rattle.def.specs.WrittenLaws.{written-next}
 use Rattle.def.proofs.sections.write_nodes.Statement.{statement}
 use Rattle.def.proofs.sections.write_nodes.Tie as tie
 

@@ -6,10 +6,10 @@ use native.Mathlib.Omega.{arith}
 use lib.ListN.{length, getD}
 use Rattle.laws.specs.Lists.{over}
 use Rattle.laws.specs.Gather.{gather}
+use Rattle.laws.specs.Written.{written-next}
 use Rattle.net.specs.Layout.{wireBytes}
 use borrow.Author.Needs.{needs}
 use Rattle.def.specs.Written.{entryWire, tableWires}
-use Rattle.def.specs.WrittenLaws.{written-next}
 use Rattle.def.proofs.sections.write_wires.Statement.{statement}
 use Rattle.def.proofs.sections.write_wires.Tie as tie
 
