@@ -24,6 +24,7 @@ pub unsafe extern "C" fn plain_read(file: *const u8, file_len: usize) -> Answer 
 
 #[no_mangle]
 pub unsafe extern "C" fn plain_write(
+    version: u32,
     nodes: *const u8,
     nodes_len: usize,
     wires: *const u8,
@@ -34,6 +35,7 @@ pub unsafe extern "C" fn plain_write(
     out_len: usize,
 ) -> Answer {
     plain::net::write(
+        version,
         from_raw_parts(nodes, nodes_len),
         from_raw_parts(wires, wires_len),
         from_raw_parts(obstacles, obstacles_len),

@@ -27,8 +27,8 @@ static int grown(buffer *b, antenna_answer a) {
     return 1;
 }
 
-/* The net as the editor keeps it. */
-enum { MOST = 256, NODE_BYTES = 5, WIRE_BYTES = 3, OBSTACLE_BYTES = 8 };
+/* The net as the editor keeps it: in version 2, where obstacles have layers. */
+enum { VERSION = 2, MOST = 256, NODE_BYTES = 5, WIRE_BYTES = 3, OBSTACLE_BYTES = 9 };
 
 typedef struct {
     uint8_t nodes[NODE_BYTES * MOST], wires[WIRE_BYTES * MOST], obstacles[OBSTACLE_BYTES * MOST];
@@ -60,12 +60,13 @@ static void add_wire(net *n, unsigned parent, unsigned layer, unsigned factor) {
     n->wires_len += WIRE_BYTES;
 }
 
-static void add_obstacle(net *n, unsigned x1, unsigned y1, unsigned x2, unsigned y2) {
+static void add_obstacle(net *n, unsigned x1, unsigned y1, unsigned x2, unsigned y2, unsigned layer) {
     uint8_t *at = n->obstacles + n->obstacles_len;
     put16(at, x1);
     put16(at + 2, y1);
     put16(at + 4, x2);
     put16(at + 6, y2);
+    at[8] = (uint8_t)layer;
     n->obstacles_len += OBSTACLE_BYTES;
 }
 
@@ -91,6 +92,7 @@ static const char *words(uint32_t number) {
     case ANTENNA_REFUSED_DEF_FORM: return "word of the text";
     case ANTENNA_REFUSED_DEF_POINT: return "point of the text";
     case ANTENNA_REFUSED_DEF_PIN: return "no node at pin";
+    case ANTENNA_REFUSED_OBSTACLE_LAYER: return "layer of obstacle";
     default: return "unknown refusal";
     }
 }
@@ -103,8 +105,8 @@ static void print_refusal(const char *what, antenna_answer a) {
 static int save(const net *n, buffer *file) {
     antenna_answer a;
     do {
-        a = antenna_write(n->nodes, n->nodes_len, n->wires, n->wires_len, n->obstacles, n->obstacles_len, file->bytes,
-                          file->len);
+        a = antenna_write(VERSION, n->nodes, n->nodes_len, n->wires, n->wires_len, n->obstacles, n->obstacles_len,
+                          file->bytes, file->len);
     } while (grown(file, a));
     if (a.number == ANTENNA_DONE) return 1;
     print_refusal("save", a);
@@ -184,13 +186,29 @@ int main(void) {
     mend(17, 1, &n);
 
     /* an obstacle over all of the wire but its last point */
-    add_obstacle(&n, 2, 0, 12, 0);
+    add_obstacle(&n, 2, 0, 12, 0, 1);
     mend(1, 12, &n);
 
     /* a wire that is neither upright nor level */
     add_node(&n, 20, 20, 0);
     add_wire(&n, 1, 1, 1);
     mend(1, 12, &n);
+
+    /* two gates 12 steps apart on layer 3, and a strap under the wire: a jumper climbs, and the strap does not hinder it */
+    static net strapped;
+    add_node(&strapped, 0, 0, ANTENNA_FLAG_GATE);
+    add_node(&strapped, 12, 0, ANTENNA_FLAG_GATE);
+    add_wire(&strapped, 0, 3, 1);
+    add_obstacle(&strapped, 2, 0, 10, 0, 2);
+    mend(3, 6, &strapped);
+
+    /* a strap over the wire does */
+    add_obstacle(&strapped, 2, 0, 10, 0, 4);
+    mend(3, 6, &strapped);
+
+    /* there is no layer 17 */
+    add_obstacle(&strapped, 2, 0, 10, 0, 17);
+    mend(3, 6, &strapped);
 
     /* two routes in a text, a gate at the start of both; behind them a word that no route begins with */
     static const uint8_t pins[ANTENNA_PIN_BYTES] = {0, 0, 0, 0, 1, ANTENNA_FLAG_GATE};

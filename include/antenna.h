@@ -30,7 +30,10 @@
  * change their programs; from 1 on only a rise of the major number may.
  */
 #define ANTENNA_VERSION_MAJOR 0
-#define ANTENNA_VERSION_MINOR 3
+#define ANTENNA_VERSION_MINOR 4
+
+/* The newest version of net files: all from 1 up to it are read and written. */
+#define ANTENNA_NEWEST_VERSION 2
 
 #define ANTENNA_JUMPER_BYTES 3  /* an entry of a jumper list */
 #define ANTENNA_RECORD_BYTES 12 /* a piece record */
@@ -60,11 +63,11 @@ extern "C" {
 enum {
     ANTENNA_DONE = 0,                      /* no refusal: 0; of antenna_def the place after the net's `;` */
     ANTENNA_REFUSED_STAGE = 1,             /* stage outside 1 to 16: 0 */
-    ANTENNA_REFUSED_HEAD = 2,              /* file under 28 bytes, or version not 1, or pair count not 3: 0 */
+    ANTENNA_REFUSED_HEAD = 2,              /* file under 28 bytes, or version not 1 or 2, or pair count not 3: 0 */
     ANTENNA_REFUSED_PAIRS = 3,             /* a section does not begin where the one before ends, the first at 28, the last ending with the file: 0 */
     ANTENNA_REFUSED_NODE_SECTION = 4,      /* node section not in fives, or not 1 to 256 nodes: 0 */
     ANTENNA_REFUSED_WIRE_SECTION = 5,      /* wire section not 3 x (nodes - 1) bytes: 0 */
-    ANTENNA_REFUSED_OBSTACLE_SECTION = 6,  /* obstacle section not in eights, or over 256 obstacles: 0 */
+    ANTENNA_REFUSED_OBSTACLE_SECTION = 6,  /* obstacle section not in eights (version 1) or nines (version 2), or over 256 obstacles: 0 */
     ANTENNA_REFUSED_NODE_FLAGS = 7,        /* flags over 3: the node */
     ANTENNA_REFUSED_WIRE_PARENT = 8,       /* parent not below the wire's own number: the wire */
     ANTENNA_REFUSED_WIRE_RANGE = 9,        /* layer not 1 to 16, or factor 0: the wire */
@@ -72,12 +75,13 @@ enum {
     ANTENNA_REFUSED_OBSTACLE_CORNERS = 11, /* corners reversed: the obstacle, from 0 */
     ANTENNA_REFUSED_JUMPER_LIST = 12,      /* jumper list not in threes: 0; or an entry not after the one before: the entry, from 0 */
     ANTENNA_REFUSED_JUMPER_POINT = 13,     /* no such wire, a wire absent at the stage, or a position outside it: the entry */
-    ANTENNA_REFUSED_JUMPER_BARRED = 14,    /* an obstacle holds the point: the entry */
+    ANTENNA_REFUSED_JUMPER_BARRED = 14,    /* an obstacle of at least the wire's layer holds the point: the entry */
     ANTENNA_REFUSED_NO_LEGAL_SET = 15,     /* no set of jumpers makes the net safe: 0 */
     ANTENNA_REFUSED_BUFFER = 16,           /* more bytes are needed than were lent: the bytes needed */
     ANTENNA_REFUSED_DEF_FORM = 17,         /* the text leaves the form: the first byte of the word, or the text's length where it ends early */
     ANTENNA_REFUSED_DEF_POINT = 18,        /* a path after the first starts at an unknown point, or a later point of a path is a node already: the byte of its `(` */
-    ANTENNA_REFUSED_DEF_PIN = 19           /* a pin meets no node, or is cut short: the pin, from 0 */
+    ANTENNA_REFUSED_DEF_PIN = 19,          /* a pin meets no node, or is cut short: the pin, from 0 */
+    ANTENNA_REFUSED_OBSTACLE_LAYER = 20    /* layer not 1 to 16 (version 2 alone has one): the obstacle, from 0 */
 };
 
 /* The flags of a node, and of a piece record. */
@@ -95,30 +99,37 @@ typedef struct {
 } antenna_answer;
 
 /*
- * Reads a net file. Tries refusals 2 to 11.
+ * Reads a net file. Tries refusals 2 to 11 with 20: each obstacle is tried by
+ * 11, then by 20, before the next one is.
  * Count: the number of nodes.
  *
- * Net file: version (16 bits, 1), pair count (16 bits, 3), three pairs of
+ * Net file: version (16 bits, 1 or 2), pair count (16 bits, 3), three pairs of
  * offset and length (32 bits each), then the sections they name, one behind
  * the other: nodes (x, y: 16 bits each; flags: 8 bits, 1 gate, 2 source),
  * wires from wire 1 on (parent, layer, factor: 8 bits each), obstacles
- * (x1, y1, x2, y2: 16 bits each).
+ * (x1, y1, x2, y2: 16 bits each; in version 2 then layer: 8 bits, 1 to 16).
+ *
+ * An obstacle bars the points it holds, its border included, of wires whose
+ * layer is at most its own. A version 1 obstacle reads as layer 16: it bars
+ * points of every wire.
  */
 antenna_answer antenna_read(const uint8_t *file, size_t file_len);
 
 /*
- * Writes the net file of three sections to the start of out. Tries refusals
- * 4 to 11 on the sections, then 16.
+ * Writes the net file of three sections to the start of out, in the version
+ * given; the obstacles are those of this version. Tries refusal 2 on the
+ * version (any number but 1 and 2), 4 to 11 with 20 on the sections, then 16.
  * Count: the number of bytes written.
  */
-antenna_answer antenna_write(const uint8_t *nodes, size_t nodes_len,
+antenna_answer antenna_write(uint32_t version,
+                             const uint8_t *nodes, size_t nodes_len,
                              const uint8_t *wires, size_t wires_len,
                              const uint8_t *obstacles, size_t obstacles_len,
                              uint8_t *out, size_t out_len);
 
 /*
  * Reports every piece of the stage (the wires of layer at most `stage`) with
- * the jumpers in place. Tries refusals 1 to 11, 12 to 14, then 16.
+ * the jumpers in place. Tries refusals 1 to 11 with 20, 12 to 14, then 16.
  * Count: the number of records.
  *
  * Jumper list: wire (8 bits), position (16 bits) each, strictly rising by
@@ -138,7 +149,7 @@ antenna_answer antenna_report(uint32_t stage, uint32_t limit,
 
 /*
  * Writes a smallest set of jumpers after which no piece of the stage is
- * harmful, as a jumper list. Tries refusals 1 to 11, 15, then 16.
+ * harmful, as a jumper list. Tries refusals 1 to 11 with 20, 15, then 16.
  * Count: the number of jumpers. No legal set has fewer; which of several
  * smallest sets is written is left open. ANTENNA_REPAIR_MOST bytes are
  * always enough.
@@ -149,7 +160,8 @@ antenna_answer antenna_repair(uint32_t stage, uint32_t limit,
 
 /*
  * Reads one net's routing from DEF text, from the byte `place` on, and writes
- * its net file to the start of out. A place past the text counts as its end.
+ * its net file, of version 1, to the start of out. A place past the text
+ * counts as its end.
  * Tries refusals 17 and 18 (whichever is earlier in the text; a point is
  * judged by 18 once it is whole, with its `)`), 19, 4 to 11 on the sections
  * made, then 16.
@@ -168,7 +180,7 @@ antenna_answer antenna_repair(uint32_t stage, uint32_t limit,
  * that point. All factors are 1.
  *
  * Pins: x, y (16 bits each), layer, flags (8 bits each); pins on one node join
- * their flags. Obstacles: the section as in a net file.
+ * their flags. Obstacles: the section as in a net file of version 1.
  *
  * Time: a text of more than 256 nodes is refused by 4 once all of it is read,
  * and behind the 256th each point, and each pin, has the text read again.

@@ -4,7 +4,9 @@
 #![allow(dead_code)]
 
 pub const VERSION_MAJOR: u32 = 0;
-pub const VERSION_MINOR: u32 = 3;
+pub const VERSION_MINOR: u32 = 4;
+
+pub const NEWEST_VERSION: u32 = 2;
 
 pub const JUMPER_BYTES: usize = 3;
 pub const RECORD_BYTES: usize = 12;
@@ -37,6 +39,7 @@ pub const REFUSED_BUFFER: u32 = 16;
 pub const REFUSED_DEF_FORM: u32 = 17;
 pub const REFUSED_DEF_POINT: u32 = 18;
 pub const REFUSED_DEF_PIN: u32 = 19;
+pub const REFUSED_OBSTACLE_LAYER: u32 = 20;
 
 pub const FLAG_GATE: u8 = 1;
 pub const FLAG_SOURCE: u8 = 2;
@@ -55,6 +58,7 @@ pub struct Answer {
 extern "C" {
     fn antenna_read(file: *const u8, file_len: usize) -> Answer;
     fn antenna_write(
+        version: u32,
         nodes: *const u8,
         nodes_len: usize,
         wires: *const u8,
@@ -99,9 +103,10 @@ pub fn read(file: &[u8]) -> Answer {
     unsafe { antenna_read(file.as_ptr(), file.len()) }
 }
 
-pub fn write(nodes: &[u8], wires: &[u8], obstacles: &[u8], out: &mut [u8]) -> Answer {
+pub fn write(version: u32, nodes: &[u8], wires: &[u8], obstacles: &[u8], out: &mut [u8]) -> Answer {
     unsafe {
         antenna_write(
+            version,
             nodes.as_ptr(),
             nodes.len(),
             wires.as_ptr(),

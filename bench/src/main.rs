@@ -24,7 +24,7 @@ fn heading() {
         println!("the header before was {major}.{minor}");
     }
     println!(
-        "{:45} {:>10} {:>10} {:>9} {:>10}",
+        "{:62} {:>10} {:>10} {:>9} {:>10}",
         "fastest batches", "us a call", "us a node", "to plain", "to before"
     );
 }
@@ -38,62 +38,84 @@ fn print(what: &str, calls: usize, nodes: usize, fastest: Fastest) {
         "-".into()
     };
     println!(
-        "{what:45} {call:10.3} {:10.4} {:9.2} {before:>10}",
+        "{what:62} {call:10.3} {:10.4} {:9.2} {before:>10}",
         call / nodes as f64,
         fastest.now / fastest.plain
     );
 }
 
-/// Nets of one size, each with a limit that asks for some jumpers.
-fn nets(nodes: usize, count: usize) -> Vec<(Net, u32)> {
+/// Nets of one kind, each with a limit that asks for some jumpers.
+struct Kind {
+    name: String,
+    version: u32,
+    nodes: usize,
+    nets: Vec<(Net, u32)>,
+}
+
+/// 50 nets of one size; each has as many obstacles as one of these.
+fn kind(name: String, version: u32, nodes: usize, obstacles: &[usize]) -> Kind {
     let mut random = Random::new(nodes as u64);
-    (0..count)
-        .map(|_| {
-            let shape = Shape {
-                nodes,
-                longest: random.pick(&[10, 100, 200]),
-                obstacles: random.pick(&[0, nodes / 16, nodes / 4]),
-            };
-            let net = net(&mut random, shape);
-            let limit = net.total_weight() / random.range(2, 2 + nodes as u64 / 4);
-            (net, limit as u32)
-        })
-        .collect()
+    let mut one = || {
+        let shape = Shape {
+            version,
+            nodes,
+            longest: random.pick(&[10, 100, 200]),
+            obstacles: random.pick(obstacles),
+        };
+        let net = net(&mut random, shape);
+        let limit = net.total_weight() / random.range(2, 2 + nodes as u64 / 4);
+        (net, limit as u32)
+    };
+    Kind {
+        nets: (0..50).map(|_| one()).collect(),
+        name,
+        version,
+        nodes,
+    }
+}
+
+/// Nets of each size, and those with the most obstacles, in either version.
+fn kinds() -> Vec<Kind> {
+    let of_size = |nodes: usize| {
+        let obstacles = [0, nodes / 16, nodes / 4];
+        kind(format!("{nodes} nodes"), 1, nodes, &obstacles)
+    };
+    let mut kinds: Vec<Kind> = SIZES.into_iter().map(of_size).collect();
+    for (version, name) in [(1, ""), (2, " with layers")] {
+        let name = format!("256 nodes, 256 obstacles{name}");
+        kinds.push(kind(name, version, 256, &[256]));
+    }
+    kinds
 }
 
 fn read() {
-    let contenders = Contenders::<libraries::Read>::new(libraries::read);
-    for nodes in SIZES {
-        let files: Vec<_> = nets(nodes, 50).iter().map(|(net, _)| net.file()).collect();
+    for kind in kinds() {
+        let contenders = Contenders::<libraries::Read>::new(kind.version, libraries::read);
+        let files: Vec<_> = kind.nets.iter().map(|(net, _)| net.file()).collect();
         let fastest = race(&contenders, |call| {
             for file in &files {
                 assert_eq!(call(black_box(file)).number, 0);
             }
         });
-        print(&format!("read, {nodes} nodes"), files.len(), nodes, fastest);
+        let what = format!("read, {}", kind.name);
+        print(&what, files.len(), kind.nodes, fastest);
     }
 }
 
 fn write() {
-    let contenders = Contenders::<libraries::Write>::new(libraries::write);
-    for nodes in SIZES {
-        let nets: Vec<_> = nets(nodes, 50)
-            .iter()
-            .map(|(net, _)| {
-                (
-                    net.node_section(),
-                    net.wire_section(),
-                    net.obstacle_section(),
-                )
-            })
-            .collect();
+    for kind in kinds() {
+        let version = kind.version;
+        let contenders = Contenders::<libraries::Write>::new(version, libraries::write);
+        let nets: Vec<_> = kind.nets.iter().map(|(net, _)| net.sections()).collect();
         let mut out = vec![0; 8192];
         let fastest = race(&contenders, |call| {
-            for (nodes, wires, obstacles) in &nets {
-                assert_eq!(call(black_box(nodes), wires, obstacles, &mut out).number, 0);
+            for [nodes, wires, obstacles] in &nets {
+                let answer = call(version, black_box(nodes), wires, obstacles, &mut out);
+                assert_eq!(answer.number, 0);
             }
         });
-        print(&format!("write, {nodes} nodes"), nets.len(), nodes, fastest);
+        let what = format!("write, {}", kind.name);
+        print(&what, nets.len(), kind.nodes, fastest);
     }
 }
 
@@ -106,10 +128,10 @@ fn repaired(net: &Net, limit: u32) -> Vec<u8> {
 }
 
 fn report() {
-    let contenders = Contenders::<libraries::Report>::new(libraries::report);
-    for nodes in SIZES {
-        let nets: Vec<_> = nets(nodes, 50)
-            .iter()
+    for kind in kinds() {
+        let contenders = Contenders::<libraries::Report>::new(kind.version, libraries::report);
+        let nets = kind.nets.iter();
+        let nets: Vec<_> = nets
             .map(|(net, limit)| (net.file(), *limit, repaired(net, *limit)))
             .collect();
         let mut out = vec![0; 12 * 1024];
@@ -118,10 +140,19 @@ fn report() {
                 assert_eq!(call(16, *limit, black_box(file), list, &mut out).number, 0);
             }
         });
-        let what = format!("report, {nodes} nodes, repair's jumpers");
-        print(&what, nets.len(), nodes, fastest);
+        let what = format!("report, {}, repair's jumpers", kind.name);
+        print(&what, nets.len(), kind.nodes, fastest);
     }
+    for (version, name) in [(1, ""), (2, ", obstacles with layers")] {
+        let what = format!("report, 256 nodes, 20,000 jumpers{name}");
+        report_many_jumpers(version, &what);
+    }
+}
+
+fn report_many_jumpers(version: u32, what: &str) {
+    let contenders = Contenders::<libraries::Report>::new(version, libraries::report);
     let shape = Shape {
+        version,
         nodes: 256,
         longest: 600,
         obstacles: 8,
@@ -136,33 +167,28 @@ fn report() {
     let fastest = race(&contenders, |call| {
         assert_eq!(call(16, 1000, black_box(&file), &list, &mut out).number, 0);
     });
-    print("report, 256 nodes, 20,000 jumpers", 1, 256, fastest);
+    print(what, 1, 256, fastest);
 }
 
 fn repair() {
-    let contenders = Contenders::<libraries::Repair>::new(libraries::repair);
     let mut out = vec![0; REPAIR_MOST];
-    for nodes in SIZES {
-        let nets: Vec<_> = nets(nodes, 50)
-            .iter()
-            .map(|(net, limit)| (net.file(), *limit))
-            .collect();
+    for kind in kinds() {
+        let contenders = Contenders::<libraries::Repair>::new(kind.version, libraries::repair);
+        let nets = kind.nets.iter();
+        let nets: Vec<_> = nets.map(|(net, limit)| (net.file(), *limit)).collect();
         let fastest = race(&contenders, |call| {
             for (file, limit) in &nets {
                 black_box(call(16, *limit, black_box(file), &mut out));
             }
         });
-        print(
-            &format!("repair, {nodes} nodes"),
-            nets.len(),
-            nodes,
-            fastest,
-        );
+        let what = format!("repair, {}", kind.name);
+        print(&what, nets.len(), kind.nodes, fastest);
     }
     for (name, net) in worst() {
+        let contenders = Contenders::<libraries::Repair>::new(net.version, libraries::repair);
         let (file, limit) = (net.file(), (net.total_weight() / 7) as u32);
         let fastest = race(&contenders, |call| {
-            black_box(call(1, limit, black_box(&file), &mut out));
+            black_box(call(16, limit, black_box(&file), &mut out));
         });
         print(&format!("repair, {name}"), 1, 256, fastest);
     }

@@ -1,6 +1,7 @@
 //! Batches of all contenders in turn; the fastest batch of each counts. Time is that of the processor for this thread, so another
 //! program on the machine takes none of it.
 
+use crate::libraries::takes;
 use std::ffi::c_long;
 
 /// Microseconds of a batch, at least.
@@ -11,7 +12,7 @@ const ALL: f64 = 150_000.0;
 const FEWEST: f64 = 20.0;
 const FEWEST_SLOW: f64 = 2.0;
 
-/// The copies of one call in the proved library, in plain Rust, and in the library of an earlier commit if it has the call.
+/// The copies of one call in the proved library, in plain Rust, and in the library of an earlier commit if it has the call and takes the net files.
 pub struct Contenders<F: ?Sized> {
     now: Vec<Box<F>>,
     plain: Vec<Box<F>>,
@@ -19,11 +20,16 @@ pub struct Contenders<F: ?Sized> {
 }
 
 impl<F: ?Sized> Contenders<F> {
-    pub fn new(copies: impl Fn(&str) -> Vec<Box<F>>) -> Contenders<F> {
+    /// For net files of this version.
+    pub fn new(version: u32, copies: impl Fn(&str) -> Vec<Box<F>>) -> Contenders<F> {
+        let taking = |library| match takes(library, version) {
+            true => copies(library),
+            false => Vec::new(),
+        };
         Contenders {
-            now: copies("now"),
-            plain: copies("plain"),
-            before: copies("before"),
+            now: taking("now"),
+            plain: taking("plain"),
+            before: taking("before"),
         }
     }
 }

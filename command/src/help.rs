@@ -52,7 +52,8 @@ pub const DRAW: &str = "\
 antenna draw NET --limit L [--stage S] [--jumpers FILE] [-o FILE]
 
 Draws the net as SVG: wires coloured by layer, vias, harmful pieces with their weights, gates, sources, obstacles, jumpers. Wires
-that the stage does not have are broken lines.
+that the stage does not have are broken lines. Obstacles of version 2 have their layer on them (L3 is layer 3) and are faint where
+the stage's wires lie above them.
   --jumpers FILE   as in 'report'
   -o FILE          or --output FILE: where the picture goes, standard output if it is not given
 Exit status 1 if a piece is harmful; the picture is written all the same.
@@ -62,9 +63,11 @@ pub const PACK: &str = "\
 antenna pack TEXT [-o FILE]
 
 Turns a net in text form into a net file. A line for each record, '#' starts a comment:
+  version 2                        before all records; without this line the version is 1
   node 0 at 10 20 gate source      nodes rise from 0; 'gate' and 'source' where they hold
   wire 1 to 0 layer 1 factor 3     wire 1 goes from node 1 to its parent 0
-  obstacle 0 0 to 12 4             two corners, the lower one first
+  obstacle 0 0 to 12 4 layer 3     two corners, the lower one first; it bars points of wires of layer 3 and below
+In version 1 an obstacle has no 'layer' and bars points of every wire.
 ";
 
 pub const UNPACK: &str = "\
@@ -83,7 +86,7 @@ because the library's form cannot say two changes of layer there: one point of e
                    and '$' are '%' and two digits of base 16
   --grid N         a step is N units of FILE, and every coordinate a multiple of N
   --pins FILE      a line 'pin NET at X Y LAYER' for each, then 'gate' and 'source' where they hold; without pins no net has a gate
-  --obstacles FILE a line 'obstacle X1 Y1 to X2 Y2' for each
+  --obstacles FILE a line 'obstacle X1 Y1 to X2 Y2' for each; they bar points of every wire (net files of version 1)
   --text           prints the nets that are read in the library's form
 Pins and obstacles have the coordinates of FILE. All nets are moved alike: the lower left corner of the die area becomes 0 0.
 Exit status 2 if a net is not read; a note does not change it.

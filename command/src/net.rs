@@ -19,16 +19,34 @@ pub struct Wire {
     pub factor: u8,
 }
 
+#[derive(Clone, Copy)]
+pub struct Obstacle {
+    pub corners: [u16; 4],
+    /// Of version 1 it is the highest.
+    pub layer: u8,
+}
+
 pub struct Net {
     pub file: Vec<u8>,
+    pub version: u32,
     pub nodes: Vec<Node>,
     /// Wire i stands at i - 1.
     pub wires: Vec<Wire>,
-    pub obstacles: Vec<[u16; 4]>,
+    pub obstacles: Vec<Obstacle>,
 }
 
-/// The sections of a net in text form, and the line of each record.
+/// The highest layer.
+const HIGHEST: u8 = 16;
+
+/// Do obstacles have layers in this version of net files?
+pub fn layered(version: u32) -> bool {
+    version > 1
+}
+
+/// The version and the sections of a net in text form, with the lines of the version and of each record.
 pub struct Sections {
+    pub version: u32,
+    pub version_line: Option<usize>,
     pub bytes: [Vec<u8>; 3],
     pub lines: [Vec<usize>; 3],
 }
@@ -59,6 +77,11 @@ impl Net {
         u32::from(self.layer(wire)) <= stage
     }
 
+    /// Does the obstacle bar the points of the wire that it holds?
+    pub fn counts(&self, obstacle: &Obstacle, wire: usize) -> bool {
+        self.layer(wire) <= obstacle.layer
+    }
+
     pub fn length(&self, wire: usize) -> usize {
         let (a, b) = (self.nodes[wire], self.nodes[self.parent(wire)]);
         usize::from(a.x.abs_diff(b.x)) + usize::from(a.y.abs_diff(b.y))
@@ -81,19 +104,22 @@ impl Net {
     /// The net file of the sections; a refusal names the line.
     fn write(name: &str, sections: &Sections) -> Result<Vec<u8>, Refusal> {
         let [nodes, wires, obstacles] = &sections.bytes;
-        let needed = library::write(nodes, wires, obstacles, &mut []);
-        let mut file = vec![0; needed.place as usize];
-        let answer = library::write(nodes, wires, obstacles, &mut file);
+        let write = |out: &mut [u8]| library::write(sections.version, nodes, wires, obstacles, out);
+        let mut file = vec![0; write(&mut []).place as usize];
+        let answer = write(&mut file);
         if answer.number == library::DONE {
             return Ok(file);
         }
         let place = answer.place as usize;
         let line = match answer.number {
+            library::REFUSED_HEAD => sections.version_line.as_ref(),
             library::REFUSED_NODE_FLAGS => sections.lines[0].get(place),
             library::REFUSED_WIRE_PARENT..=library::REFUSED_WIRE_ENDS => {
                 sections.lines[1].get(place - 1)
             }
-            library::REFUSED_OBSTACLE_CORNERS => sections.lines[2].get(place),
+            library::REFUSED_OBSTACLE_CORNERS | library::REFUSED_OBSTACLE_LAYER => {
+                sections.lines[2].get(place)
+            }
             _ => None,
         };
         Err(match line {
@@ -108,6 +134,7 @@ impl Net {
             return Err(Refusal::at(name, answer));
         }
         let number = |at: usize| u16::from_le_bytes([file[at], file[at + 1]]);
+        let version = u32::from(number(0));
         let wires_at = 28 + 5 * answer.count as usize;
         let obstacles_at = wires_at + 3 * (answer.count as usize - 1);
         let nodes = (28..wires_at)
@@ -127,11 +154,16 @@ impl Net {
                 factor: file[at + 2],
             })
             .collect();
+        let layered = layered(version);
         let obstacles = (obstacles_at..file.len())
-            .step_by(8)
-            .map(|at| [0, 2, 4, 6].map(|k| number(at + k)))
+            .step_by(if layered { 9 } else { 8 })
+            .map(|at| Obstacle {
+                corners: [0, 2, 4, 6].map(|k| number(at + k)),
+                layer: if layered { file[at + 8] } else { HIGHEST },
+            })
             .collect();
         Ok(Net {
+            version,
             nodes,
             wires,
             obstacles,

@@ -110,8 +110,8 @@ fn refusal(answer: Answer) -> String {
     let (what, advice) = match answer.number {
         library::REFUSED_STAGE => ("the stage is not 1 to 16".into(), "give --stage a number from 1 to 16"),
         library::REFUSED_HEAD => (
-            "this is no net file: it has under 28 bytes, or its version is not 1, or its pair count is not 3".into(),
-            "name a net file, or a net in text form",
+            "this is no net file: it has under 28 bytes, or its version is not 1 or 2, or its pair count is not 3".into(),
+            "name a net file, or a net in text form, of version 1 or 2",
         ),
         library::REFUSED_PAIRS => (
             "the sections do not stand one behind the other up to the end of the file".into(),
@@ -123,7 +123,7 @@ fn refusal(answer: Answer) -> String {
             "give every node above 0 one wire",
         ),
         library::REFUSED_OBSTACLE_SECTION => (
-            "there are not at most 256 obstacles of 8 bytes".into(),
+            "there are not at most 256 obstacles of 8 bytes, in version 2 of 9".into(),
             "merge obstacles, or leave out those off the net",
         ),
         library::REFUSED_NODE_FLAGS => (
@@ -145,6 +145,10 @@ fn refusal(answer: Answer) -> String {
         library::REFUSED_OBSTACLE_CORNERS => (
             format!("obstacle {place}: its corners are reversed"),
             "name the corner with the lower x and y first",
+        ),
+        library::REFUSED_OBSTACLE_LAYER => (
+            format!("obstacle {place}: its layer is not 1 to 16"),
+            "name the layer it is on; one of layer 16 bars points of every wire",
         ),
         library::REFUSED_JUMPER_LIST => (
             format!("jumper {place}: the list does not rise by wire, then position"),

@@ -1,22 +1,33 @@
 //! Random nets, jumper lists and damaged files.
 
 pub mod def;
+pub mod obstacle;
 
 use crate::random::Random;
-use crate::reference::net::{Net, Node, Obstacle, Wire};
+use crate::reference::net::{file, Net, Node, Wire};
 use crate::reference::report::{free_points, legal, list_of, Point};
+use obstacle::{damage_obstacle, obstacle, on_layers};
 
 /// How a random net is made.
 #[derive(Clone, Copy)]
 pub struct Shape {
+    pub version: u32,
     pub nodes: usize,
     pub longest: u64,
     pub obstacles: usize,
 }
 
+/// Either version.
+pub fn version(random: &mut Random) -> u32 {
+    random.range(1, 2) as u32
+}
+
 /// A net that is accepted.
 pub fn net(random: &mut Random, shape: Shape) -> Net {
-    let layers = random.pick(&[1, 1, 2, 3, 16]);
+    let layers = match shape.version {
+        1 => random.pick(&[1, 1, 2, 3, 16]),
+        _ => random.pick(&[1, 3, 3, 4, 16]),
+    };
     let mut factors = random.pick(&[1, 1, 2, 3, 5, 255]);
     if random.chance(1, 20) {
         factors = 255;
@@ -86,6 +97,7 @@ pub fn net(random: &mut Random, shape: Shape) -> Net {
         });
     }
     let mut net = Net {
+        version: shape.version,
         nodes,
         wires,
         obstacles: Vec::new(),
@@ -95,53 +107,6 @@ pub fn net(random: &mut Random, shape: Shape) -> Net {
         net.obstacles.push(o);
     }
     net
-}
-
-/// An obstacle over an end, the middle or the whole of a wire, or somewhere near.
-pub fn obstacle(random: &mut Random, net: &Net) -> Obstacle {
-    let count = net.nodes.len() as u64;
-    let (a, b) = if count > 1 {
-        let i = random.range(1, count - 1) as usize;
-        let length = net.length(i) as u64;
-        match random.below(6) {
-            0 => (net.point(i, 0), net.point(i, length as usize)),
-            1 => {
-                let t = random.range(0, length) as usize;
-                (net.point(i, 0), net.point(i, t))
-            }
-            2 => {
-                let t = random.range(0, length) as usize;
-                (net.point(i, t), net.point(i, length as usize))
-            }
-            3 => {
-                let t = random.range(0, length) as usize;
-                (net.point(i, t), net.point(i, t))
-            }
-            4 => {
-                let (s, t) = (random.range(0, length), random.range(0, length));
-                (net.point(i, s as usize), net.point(i, t as usize))
-            }
-            _ => {
-                let j = random.below(count) as usize;
-                let n = net.nodes[j];
-                (net.point(i, length as usize / 2), (n.x, n.y))
-            }
-        }
-    } else {
-        let n = net.nodes[0];
-        ((n.x, n.y), (n.x, n.y))
-    };
-    let wider = if random.chance(1, 4) {
-        random.below(3) as u16
-    } else {
-        0
-    };
-    Obstacle {
-        x1: a.0.min(b.0).saturating_sub(wider),
-        y1: a.1.min(b.1).saturating_sub(wider),
-        x2: a.0.max(b.0).saturating_add(wider),
-        y2: a.1.max(b.1).saturating_add(wider),
-    }
 }
 
 /// A limit near the weights of the net, or any.
@@ -180,21 +145,35 @@ pub fn limit(random: &mut Random, net: &Net) -> u32 {
     }
 }
 
-/// A net, a stage and a limit with at most `most` points where a jumper may stand; more often one that needs jumpers.
+/// Some free point is held by an obstacle, which does not count for its wire.
+fn held_and_free(net: &Net, stage: u32) -> bool {
+    free_points(&on_layers(net, |_| 16), stage) != free_points(net, stage)
+}
+
+/// A net, a stage and a limit with at most `most` points where a jumper may stand; more often one that needs jumpers, and in version 2 one
+/// where an obstacle's layer decides.
 pub fn small_case(random: &mut Random, most: usize) -> (Net, u32, u32) {
+    let version = version(random);
     loop {
         let nodes = random.range(1, 8) as usize;
         let shape = Shape {
+            version,
             nodes,
             longest: match nodes {
                 1..=3 => random.range(2, 14),
                 4..=5 => random.range(2, 6),
                 _ => random.range(2, 4),
             },
-            obstacles: random.pick(&[0, 0, 0, 1, 2, 4]),
+            obstacles: match version {
+                1 => random.pick(&[0, 0, 0, 1, 2, 4]),
+                _ => random.pick(&[0, 1, 2, 3, 4, 8]),
+            },
         };
         let mut net = net(random, shape);
         let stage = stage(random, &net);
+        if version == 2 && random.chance(2, 3) && !held_and_free(&net, stage) {
+            continue;
+        }
         for _ in 0..10 {
             if free_points(&net, stage).len() <= most {
                 let limit = limit(random, &net);
@@ -225,6 +204,7 @@ pub fn stage(random: &mut Random, net: &Net) -> u32 {
 pub fn large_case(random: &mut Random) -> (Net, u32, u32) {
     loop {
         let shape = Shape {
+            version: version(random),
             nodes: random.range(100, 256) as usize,
             longest: random.pick(&[3, 8, 8, 30, 30]),
             obstacles: random.pick(&[0, 0, 2, 10, 40, 256]),
@@ -243,9 +223,11 @@ pub fn large_case(random: &mut Random) -> (Net, u32, u32) {
     }
 }
 
-/// A net of any number of nodes and obstacles; most are small.
+/// A net of any number of nodes and obstacles; most are small. Nine obstacles of version 1 have as many bytes as eight of version 2.
 pub fn any_net(random: &mut Random) -> Net {
+    let version = version(random);
     let shape = Shape {
+        version,
         nodes: if random.chance(1, 20) {
             random.range(200, 256)
         } else {
@@ -254,6 +236,8 @@ pub fn any_net(random: &mut Random) -> Net {
         longest: random.pick(&[2, 5, 20, 300]),
         obstacles: if random.chance(1, 30) {
             random.range(200, 256)
+        } else if random.chance(1, 30) {
+            u64::from(10 - version)
         } else {
             random.below(6)
         } as usize,
@@ -261,27 +245,17 @@ pub fn any_net(random: &mut Random) -> Net {
     net(random, shape)
 }
 
-/// One record is made wrong, by refusals 7 to 11 or nearly so.
+/// One record is made wrong, or two obstacles are, by refusals 7 to 11 and 20 or nearly so.
 pub fn damage_record(random: &mut Random, net: &mut Net) {
     let any = random.next();
     let node = random.below(net.nodes.len() as u64) as usize;
-    let kind = random.below(8);
+    let kind = random.below(if net.version == 1 { 8 } else { 10 });
     if kind == 0 || net.wires.is_empty() && kind < 6 {
         net.nodes[node].flags = random.pick(&[4, 5, 8, 255, 3]);
         return;
     }
     if kind >= 6 {
-        if net.obstacles.is_empty() {
-            return;
-        }
-        let k = random.below(net.obstacles.len() as u64) as usize;
-        let o = &mut net.obstacles[k];
-        if kind == 6 {
-            std::mem::swap(&mut o.x1, &mut o.x2);
-        } else {
-            (o.y1, o.y2) = (o.y2.saturating_add(1), o.y1);
-        }
-        return;
+        return damage_obstacle(random, net);
     }
     let i = random.below(net.wires.len() as u64) as usize;
     let wire = &mut net.wires[i];
@@ -297,34 +271,49 @@ pub fn damage_record(random: &mut Random, net: &mut Net) {
     }
 }
 
-/// The sections of a net; some have damaged records, some the wrong length.
-pub fn damaged_sections(random: &mut Random) -> [Vec<u8>; 3] {
+/// A section has the wrong length, or nearly so.
+fn damage_length(random: &mut Random, section: &mut Vec<u8>, width: usize) {
+    match random.below(6) {
+        0 => section.truncate(section.len().saturating_sub(random.range(1, 9) as usize)),
+        1 => section.truncate(section.len().saturating_sub(width)),
+        2 => section.resize(section.len() + random.range(1, 9) as usize, 1),
+        3 => section.resize(section.len() + width, 0),
+        4 => section.clear(),
+        _ => section.resize(width * random.range(255, 258) as usize, 0),
+    }
+}
+
+/// A version that is not the one given: the other one, or none that there is.
+fn wrong_version(random: &mut Random, version: u32) -> u32 {
+    let any = random.next() as u32;
+    let near = [0, 3, 256, 257, 258, 65_536, 65_537, 65_538, 1 << 31];
+    match random.below(4) {
+        0 | 1 => 3 - version,
+        2 => random.pick(&near),
+        _ => random.pick(&[any, u32::MAX]),
+    }
+}
+
+/// The version and the sections of a net; some have damaged records, some the wrong length, some the wrong version.
+pub fn damaged_sections(random: &mut Random) -> (u32, [Vec<u8>; 3]) {
     let mut net = any_net(random);
     for _ in 0..random.pick(&[0, 0, 1, 1, 2, 4]) {
         damage_record(random, &mut net);
     }
-    let mut sections = [
-        net.node_section(),
-        net.wire_section(),
-        net.obstacle_section(),
-    ];
+    let mut sections = net.sections();
     if random.chance(1, 4) {
-        let width = [5, 3, 8];
+        let obstacle = random.pick(&[8, 9]);
+        let width = [5, 3, obstacle];
         let k = random.below(3) as usize;
-        let section = &mut sections[k];
-        match random.below(6) {
-            0 => section.truncate(section.len().saturating_sub(random.range(1, 9) as usize)),
-            1 => section.truncate(section.len().saturating_sub(width[k])),
-            2 => section.resize(section.len() + random.range(1, 9) as usize, 1),
-            3 => section.resize(section.len() + width[k], 0),
-            4 => section.clear(),
-            _ => section.resize(width[k] * random.range(255, 258) as usize, 0),
-        }
+        damage_length(random, &mut sections[k], width[k]);
         if k == 0 && random.chance(1, 2) {
             sections[1].resize((sections[0].len() / 5).saturating_sub(1) * 3, 0);
         }
     }
-    sections
+    if random.chance(1, 12) {
+        net.version = wrong_version(random, net.version);
+    }
+    (net.version, sections)
 }
 
 /// A file with something wrong in it, or nearly so.
@@ -340,7 +329,7 @@ pub fn damage_file(random: &mut Random, file: &mut Vec<u8>) {
             None => 0,
         }
     };
-    let by = random.pick(&[1, 3, 5, 8, 28, 1 << 16, 1 << 31]);
+    let by = random.pick(&[1, 3, 5, 8, 9, 28, 1 << 16, 1 << 31]);
     match random.below(10) {
         0 => file.truncate(random.below(file.len() as u64 + 1) as usize),
         1 => file.extend(vec![0; random.range(1, 30) as usize]),
@@ -389,8 +378,8 @@ pub fn damage_file(random: &mut Random, file: &mut Vec<u8>) {
 
 /// A file, good or damaged.
 pub fn any_file(random: &mut Random) -> Vec<u8> {
-    let [nodes, wires, obstacles] = damaged_sections(random);
-    let mut file = crate::reference::net::file(&nodes, &wires, &obstacles);
+    let (version, [nodes, wires, obstacles]) = damaged_sections(random);
+    let mut file = file(version, &nodes, &wires, &obstacles);
     for _ in 0..random.pick(&[0, 0, 0, 1, 1, 2]) {
         if !file.is_empty() {
             damage_file(random, &mut file);

@@ -79,8 +79,9 @@ fn of_def() -> usize {
 pub fn of_calls() -> [(&'static str, usize, usize); 5] {
     let mut random = Random::new(4);
     let mut nets: Vec<_> = worst().into_iter().map(|(_, net)| net).collect();
-    for obstacles in [0, 16, 256] {
+    for (version, obstacles) in [(1, 0), (1, 16), (1, 256), (2, 0), (2, 16), (2, 256)] {
         let shape = Shape {
+            version,
             nodes: 256,
             longest: 200,
             obstacles,
@@ -91,11 +92,6 @@ pub fn of_calls() -> [(&'static str, usize, usize); 5] {
     let mut most = [0; 4];
     for net in nets {
         let (file, limit) = (net.file(), (net.total_weight() / 7) as u32);
-        let sections = [
-            net.node_section(),
-            net.wire_section(),
-            net.obstacle_section(),
-        ];
         let (mut out, mut list) = (vec![0; 12 * 1024], vec![0; library::REPAIR_MOST]);
         let mut count = 0;
         let repair = taken(|| {
@@ -104,10 +100,14 @@ pub fn of_calls() -> [(&'static str, usize, usize); 5] {
             count = answer.count as usize;
         });
         list.truncate(library::JUMPER_BYTES * count);
-        let [nodes, wires, obstacles] = &sections;
+        let [nodes, wires, obstacles] = &net.sections();
+        let write = taken(|| {
+            let answer = library::write(net.version, nodes, wires, obstacles, &mut out);
+            assert_eq!(answer.number, 0);
+        });
         let calls = [
             taken(|| assert_eq!(library::read(&file).number, 0)),
-            taken(|| assert_eq!(library::write(nodes, wires, obstacles, &mut out).number, 0)),
+            write,
             taken(|| assert_eq!(library::report(16, limit, &file, &list, &mut out).number, 0)),
             repair,
         ];

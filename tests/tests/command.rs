@@ -4,6 +4,8 @@
 mod pictures;
 #[path = "command/several.rs"]
 mod several;
+#[path = "command/versions.rs"]
+mod versions;
 #[path = "command/writing.rs"]
 mod writing;
 
@@ -86,7 +88,7 @@ fn points<'a>(words: impl Iterator<Item = &'a str>) -> Vec<Point> {
 /// Every sample says what it shows and its answers, and they are right.
 #[test]
 fn samples_and_their_answers() {
-    assert!(samples().len() >= 8);
+    assert!(samples().len() >= 10);
     for name in samples() {
         let text = std::fs::read_to_string(root().join("examples/nets").join(&name)).unwrap();
         let net = sample(&name);

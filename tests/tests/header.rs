@@ -133,7 +133,7 @@ fn values_in_the_documents() {
             }
         }
     }
-    assert_eq!(checked, 13);
+    assert_eq!(checked, 14);
 }
 
 /// The calls: name, and each parameter's name and type as Rust writes it.

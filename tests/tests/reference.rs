@@ -79,6 +79,30 @@ fn plain_writer() {
     suite::net::very_long_sections(write);
     suite::net::smallest_sections(write);
     suite::net::written_is_read(read, write);
+    suite::net::read_is_written(read, write, 10_000);
+}
+
+#[test]
+fn plain_layers() {
+    let calls = suite::layers::Calls {
+        read,
+        write,
+        report,
+        repair,
+    };
+    suite::layers::every_two_layers(report, repair);
+    suite::layers::version_1_counts_for_every_wire(report, repair);
+    suite::layers::several_over_a_point(report, repair);
+    suite::layers::crossing_wires(report, repair);
+    suite::layers::straps(report, repair);
+    suite::layers::all_on_layer_16(report, repair, 2_000);
+    suite::layers::repaired_is_reported(report, repair, 5_000);
+    suite::layers::corners_and_layers_in_order(calls);
+    suite::layers::layers_in_range(calls);
+    suite::layers::section_lengths(read, write);
+    suite::layers::versions_of_the_writer(write);
+    suite::layers::versions_of_the_reader(read);
+    suite::layers::whole_files(read, write);
 }
 
 #[test]

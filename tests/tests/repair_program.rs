@@ -1,7 +1,7 @@
 //! The repair program, run whole.
 
 use antenna_tests::suite::program::{check_repair, input, many_inputs, run};
-use antenna_tests::suite::repair::net_a;
+use antenna_tests::suite::repair::{net_a, of_layer};
 use std::path::Path;
 
 fn program() -> &'static Path {
@@ -20,6 +20,23 @@ fn net_a_prints_whole() {
     }
     assert_eq!(run(program(), &input(0, 1, &file), &[]), "refused 1 0\n");
     assert_eq!(run(program(), &[], &[]), "refused 1 0\n");
+}
+
+/// An obstacle over the whole wire, on a layer below the wire's and on the wire's own.
+#[test]
+fn net_a_in_version_2() {
+    let mut net = net_a(&[]);
+    net.version = 2;
+    net.wires[0].layer = 5;
+    for (layer, lines) in [
+        (4, "jumpers 2\n1 1\n1 12\n"),
+        (5, "refused 15 0\n"),
+        (17, "refused 20 0\n"),
+    ] {
+        net.obstacles = vec![of_layer(layer, [0, 0, 13, 0])];
+        let input = input(5, 1, &net.file());
+        assert_eq!(run(program(), &input, &[]), lines);
+    }
 }
 
 #[test]

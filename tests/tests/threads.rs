@@ -14,6 +14,7 @@ const KINDS: usize = 5;
 
 struct Case {
     file: Vec<u8>,
+    version: u32,
     sections: [Vec<u8>; 3],
     list: Vec<u8>,
     stage: u32,
@@ -35,11 +36,8 @@ fn cases(count: usize) -> Vec<Case> {
                 net = net_of(&file).unwrap_or(net);
             }
             Case {
-                sections: [
-                    net.node_section(),
-                    net.wire_section(),
-                    net.obstacle_section(),
-                ],
+                version: net.version,
+                sections: net.sections(),
                 file,
                 list,
                 stage,
@@ -57,7 +55,7 @@ fn call(case: &Case, which: usize) -> (Answer, Vec<u8>) {
     let text = &case.text;
     let answer = match which % KINDS {
         0 => read(&case.file),
-        1 => write(nodes, wires, obstacles, &mut out),
+        1 => write(case.version, nodes, wires, obstacles, &mut out),
         2 => report(case.stage, case.limit, &case.file, &case.list, &mut out),
         3 => repair(case.stage, case.limit, &case.file, &mut out),
         _ => def(

@@ -32,3 +32,8 @@ fn smallest_sections() {
 fn written_is_read() {
     net::written_is_read(read, write);
 }
+
+#[test]
+fn read_is_written() {
+    net::read_is_written(read, write, 60_000);
+}

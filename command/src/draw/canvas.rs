@@ -29,6 +29,15 @@ const SIDES: [(f64, f64); 8] = [
     (-1.0, 0.0),
 ];
 
+/// The letters of a small label, as a part of the others.
+const SMALL: f64 = 0.8;
+
+/// Between a small label and the border of the area it stands in.
+const PAD: f64 = 3.0;
+
+/// Where a small label may stand in its area, as parts of the way across and down, the best first.
+const PARTS: [f64; 5] = [0.0, 1.0, 0.5, 0.25, 0.75];
+
 impl Canvas {
     pub fn new(scale: &Scale, taken: Vec<Area>) -> Canvas {
         Canvas {
@@ -61,7 +70,7 @@ impl Canvas {
 
     /// Writes a label near a point, over no other label or mark if there is such a place, and with a line to the point if it is far.
     pub fn label(&mut self, point: (f64, f64), reach: f64, colour: &str, text: &str) {
-        let wide = 0.64 * self.letters * text.chars().count() as f64;
+        let wide = wide(text, self.letters);
         let mut best: Option<(f64, Area, bool)> = None;
         for away in 0..8 {
             let gap = reach + 0.9 * self.letters * f64::from(away);
@@ -85,11 +94,31 @@ impl Canvas {
                 &format!("stroke=\"{colour}\" stroke-width=\"0.7\""),
             );
         }
+        self.text(area, self.letters, "", colour, text);
+    }
+
+    /// Writes a small label in an area, over no other label or mark if there is such a place.
+    pub fn small_label(&mut self, area: &Area, colour: &str, text: &str) {
+        let letters = SMALL * self.letters;
+        let wide = wide(text, letters);
+        let parts = PARTS
+            .iter()
+            .flat_map(|&down| PARTS.map(|across| (across, down)));
+        let places = parts.map(|part| within(area, part, wide, letters));
+        let Some(place) = places.min_by(|a, b| self.cost(a).total_cmp(&self.cost(b))) else {
+            return;
+        };
+        let size = format!("font-size=\"{letters:.1}\" ");
+        self.text(place, letters, &size, colour, text);
+    }
+
+    /// A label's text in its area.
+    fn text(&mut self, area: Area, letters: f64, size: &str, colour: &str, text: &str) {
         self.put(format_args!(
-            "<text x=\"{:.1}\" y=\"{:.1}\" fill=\"{colour}\" stroke=\"white\" stroke-width=\"{:.1}\" paint-order=\"stroke\">{text}</text>",
+            "<text x=\"{:.1}\" y=\"{:.1}\" {size}fill=\"{colour}\" stroke=\"white\" stroke-width=\"{:.1}\" paint-order=\"stroke\">{text}</text>",
             area[0],
-            area[1] + 0.85 * self.letters,
-            self.letters / 5.0
+            area[1] + 0.85 * letters,
+            letters / 5.0
         ));
         self.taken.push(area);
     }
@@ -114,6 +143,21 @@ impl Canvas {
             area[3] + half,
         ]);
     }
+}
+
+fn wide(text: &str, letters: f64) -> f64 {
+    0.64 * letters * text.chars().count() as f64
+}
+
+/// The area of a text in another, so far across and down; in the middle of one that is too small.
+fn within(area: &Area, (across, down): (f64, f64), wide: f64, high: f64) -> Area {
+    let from = |axis: usize, part: f64, extent: f64| {
+        let room = area[axis + 2] - area[axis] - extent;
+        let inner = (room - 2.0 * PAD).max(0.0);
+        area[axis] + (room - inner) / 2.0 + part * inner
+    };
+    let (left, top) = (from(0, across, wide), from(1, down, high));
+    [left, top, left + wide, top + high]
 }
 
 /// The area of a text on one side of a point.

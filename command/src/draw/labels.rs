@@ -1,15 +1,27 @@
-//! The labels of a picture: weights of harmful pieces, jumpers; nodes and factors if there are few.
+//! The labels of a picture: layers of obstacles, weights of harmful pieces, jumpers; nodes and factors if there are few.
 
 use super::{marks, places, Line, Picture};
-use crate::net::Node;
+use crate::net::{layered, Node};
 
 impl Picture<'_> {
     pub fn draw_labels(&mut self) {
+        if layered(self.net.version) {
+            self.label_obstacles();
+        }
         self.label_weights();
         self.label_jumpers();
         if self.scale.labels {
             self.label_nodes();
             self.label_factors();
+        }
+    }
+
+    /// Each with its layer.
+    fn label_obstacles(&mut self) {
+        for shape in &self.obstacles {
+            let colour = marks::obstacle_label(shape.faint);
+            let text = marks::layer_name(shape.layer);
+            self.canvas.small_label(&shape.area, colour, &text);
         }
     }
 

@@ -1,9 +1,9 @@
 //! The legend: what the picture has, and nothing else.
 
 use super::canvas::Canvas;
-use super::scale::EDGE;
+use super::scale::{Area, EDGE};
 use super::{marks, Picture};
-use crate::net::Node;
+use crate::net::{layered, Node};
 
 /// What stands for itself in the legend.
 pub enum Item {
@@ -15,6 +15,8 @@ pub enum Item {
     Jumper,
     Harm,
     Obstacle,
+    LayeredObstacle,
+    FaintObstacle,
     Factor,
     Layer(u8),
     AbsentLayer(u8),
@@ -31,6 +33,8 @@ impl Item {
             Item::Jumper => "jumper, wire:position".into(),
             Item::Harm => "harmful, with its weight".into(),
             Item::Obstacle => "obstacle".into(),
+            Item::LayeredObstacle => "obstacle, with its layer".into(),
+            Item::FaintObstacle => "obstacle of a lower layer, does not count".into(),
             Item::Factor => "factor over 1".into(),
             Item::Layer(layer) => format!("layer {layer}"),
             Item::AbsentLayer(layer) => format!("layer {layer}, not made yet"),
@@ -41,6 +45,7 @@ impl Item {
     fn draw(&self, canvas: &mut Canvas, (x, y): (f64, f64)) {
         let r = 7.0;
         let (from, to) = ((x - 20.0, y), (x + 20.0, y));
+        let sample = [x - 20.0, y - 9.0, x + 20.0, y + 9.0];
         match self {
             Item::Gate => marks::node(canvas, (x, y), r, true, false),
             Item::Source => marks::node(canvas, (x, y), r, false, true),
@@ -53,11 +58,25 @@ impl Item {
                 "<text x=\"{x:.1}\" y=\"{:.1}\" text-anchor=\"middle\">×3</text>",
                 y + 6.0
             )),
-            Item::Obstacle => canvas.rect([x - 20.0, y - 9.0, x + 20.0, y + 9.0], marks::OBSTACLE),
+            Item::Obstacle => canvas.rect(sample, marks::obstacle(false)),
+            Item::LayeredObstacle => layered_obstacle(canvas, sample, false),
+            Item::FaintObstacle => layered_obstacle(canvas, sample, true),
             Item::Layer(layer) => canvas.line(from, to, &marks::wire(*layer, 5.0)),
             Item::AbsentLayer(layer) => canvas.line(from, to, &marks::absent_wire(*layer, 5.0)),
         }
     }
+}
+
+/// An obstacle with a layer in its middle.
+fn layered_obstacle(canvas: &mut Canvas, area: Area, faint: bool) {
+    canvas.rect(area, marks::obstacle(faint));
+    let (x, y) = ((area[0] + area[2]) / 2.0, (area[1] + area[3]) / 2.0);
+    let colour = marks::obstacle_label(faint);
+    let text = marks::layer_name(if faint { 1 } else { 3 });
+    canvas.put(format_args!(
+        "<text x=\"{x:.1}\" y=\"{:.1}\" text-anchor=\"middle\" font-size=\"13\" fill=\"{colour}\">{text}</text>",
+        y + 5.0
+    ));
 }
 
 /// What a picture has.
@@ -69,6 +88,8 @@ pub fn items(picture: &Picture) -> Vec<Item> {
     let absent = |layer: u8| {
         u32::from(layer) > stage && wires().any(|i| net.layer(i) == layer && !net.is_via(i))
     };
+    let layered = layered(net.version);
+    let obstacle = |faint: bool| picture.obstacles.iter().any(|shape| shape.faint == faint);
     let made = |layer: u8| picture.pieces.iter().any(|piece| piece.has_layer(layer));
     let marks = [
         (Item::Gate, node(|n| n.gate)),
@@ -78,7 +99,9 @@ pub fn items(picture: &Picture) -> Vec<Item> {
         (Item::AbsentVia, via(false)),
         (Item::Jumper, !picture.places.is_empty()),
         (Item::Harm, picture.pieces.iter().any(|piece| piece.harmful)),
-        (Item::Obstacle, !picture.obstacles.is_empty()),
+        (Item::Obstacle, !layered && obstacle(false)),
+        (Item::LayeredObstacle, layered && obstacle(false)),
+        (Item::FaintObstacle, obstacle(true)),
         (Item::Factor, wires().any(|i| picture.has_factor(i))),
     ];
     let there = marks

@@ -25,6 +25,11 @@ pub fn layer(layer: u8) -> &'static str {
     LAYERS[usize::from(layer) - 1]
 }
 
+/// A layer in a label.
+pub fn layer_name(layer: u8) -> String {
+    format!("L{layer}")
+}
+
 pub fn wire(layer_number: u8, wide: f64) -> String {
     let colour = layer(layer_number);
     format!("stroke=\"{colour}\" stroke-width=\"{wide}\" stroke-linecap=\"round\"")
@@ -44,8 +49,25 @@ pub fn band(wide: f64) -> String {
     format!("stroke=\"{HARM}\" stroke-width=\"{wide}\" stroke-linecap=\"round\" opacity=\"0.3\"")
 }
 
-pub const OBSTACLE: &str =
-    "fill=\"#777\" fill-opacity=\"0.3\" stroke=\"#777\" stroke-width=\"0.7\"";
+const OBSTACLE: &str = "fill=\"#777\" fill-opacity=\"0.3\" stroke=\"#777\" stroke-width=\"0.7\"";
+const FAINT: &str = "fill=\"#777\" fill-opacity=\"0.08\" stroke=\"#777\" stroke-width=\"0.7\" stroke-dasharray=\"2 3\"";
+
+pub fn obstacle(faint: bool) -> &'static str {
+    if faint {
+        FAINT
+    } else {
+        OBSTACLE
+    }
+}
+
+/// The colour of an obstacle's label.
+pub fn obstacle_label(faint: bool) -> &'static str {
+    if faint {
+        "#777"
+    } else {
+        "#444"
+    }
+}
 
 /// How far the marks at a node's point reach from their middle, r being half the width of a gate.
 pub fn reach(net: &Net, stage: u32, i: usize, r: f64) -> f64 {

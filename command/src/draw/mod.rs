@@ -10,7 +10,7 @@ mod scale;
 mod stretches;
 
 use crate::case::Case;
-use crate::net::Net;
+use crate::net::{layered, Net};
 use crate::pieces::Piece;
 use crate::words::{count, Refusal};
 use canvas::Canvas;
@@ -20,6 +20,13 @@ use stretches::Stretch;
 
 /// An obstacle is this many times as wide as a wire, if it can be.
 const SEEN: f64 = 4.5;
+
+/// An obstacle as the picture has it.
+struct Shape {
+    area: Area,
+    layer: u8,
+    faint: bool,
+}
 
 /// A line of the picture: a wire, from where to where.
 type Line = (usize, (f64, f64), (f64, f64));
@@ -31,7 +38,7 @@ struct Picture<'a> {
     /// The lines of each piece.
     lines: Vec<Vec<Line>>,
     places: Vec<Place>,
-    obstacles: Vec<Area>,
+    obstacles: Vec<Shape>,
     scale: Scale,
     canvas: Canvas,
 }
@@ -106,17 +113,31 @@ impl Picture<'_> {
             self.canvas.height - EDGE / 3.0,
         ];
         let seen = SEEN * self.scale.size.wire / self.scale.step;
-        for [x1, y1, x2, y2] in obstacles::areas(self.net, seen) {
+        let areas = obstacles::areas(self.net, seen);
+        for (k, [x1, y1, x2, y2]) in areas.into_iter().enumerate() {
             let area = scale::between(self.scale.point((x1, y1)), self.scale.point((x2, y2)));
             if !meets(&area, &page) {
                 continue;
             }
             let [left, top] = [0, 1].map(|k| area[k].max(page[k]));
             let [right, bottom] = [2, 3].map(|k| area[k].min(page[k]));
-            self.canvas
-                .rect([left, top, right, bottom], marks::OBSTACLE);
-            self.obstacles.push(area);
+            self.draw_obstacle(k, [left, top, right, bottom]);
         }
+    }
+
+    fn draw_obstacle(&mut self, k: usize, area: Area) {
+        let obstacle = &self.net.obstacles[k];
+        let (layer, layered) = (obstacle.layer, layered(self.net.version));
+        let faint = obstacles::faint(self.net, self.stage, obstacle);
+        if layered {
+            let title = format!("<title>obstacle {k}: layer {layer}</title>");
+            self.canvas.put(format_args!("<g>{title}"));
+        }
+        self.canvas.rect(area, marks::obstacle(faint));
+        if layered {
+            self.canvas.put(format_args!("</g>"));
+        }
+        self.obstacles.push(Shape { area, layer, faint });
     }
 
     /// Wires that the stage does not have.

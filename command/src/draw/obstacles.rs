@@ -1,6 +1,6 @@
-//! How large an obstacle is drawn: wide enough to be seen under a wire, but over no point of a wire that it does not hold.
+//! How large an obstacle is drawn: wide enough to be seen under a wire, but over no point of a wire that it does not hold. And which are drawn faint.
 
-use crate::net::Net;
+use crate::net::{layered, Net, Obstacle};
 
 /// A rectangle of the net: least x, least y, greatest x, greatest y.
 type Area = [f64; 4];
@@ -16,8 +16,34 @@ pub fn areas(net: &Net, seen: f64) -> Vec<Area> {
         .collect();
     let obstacles = net.obstacles.iter();
     obstacles
-        .map(|corners| area(&wires, corners.map(f64::from), seen))
+        .map(|obstacle| area(&wires, rectangle(obstacle), seen))
         .collect()
+}
+
+fn rectangle(obstacle: &Obstacle) -> Area {
+    obstacle.corners.map(f64::from)
+}
+
+/// An obstacle is faint if it counts for none of the stage's wires whose points it holds; if it holds none, if it counts for no wire of the stage.
+pub fn faint(net: &Net, stage: u32, obstacle: &Obstacle) -> bool {
+    let present = || (1..net.nodes.len()).filter(|&i| net.present(stage, i));
+    let held = || present().filter(|&i| holds(net, obstacle, i));
+    let counts = |i| net.counts(obstacle, i);
+    let counted = match held().next() {
+        Some(_) => held().any(counts),
+        None => present().any(counts),
+    };
+    layered(net.version) && !counted
+}
+
+/// Does the obstacle hold a point inside the wire?
+fn holds(net: &Net, obstacle: &Obstacle, wire: usize) -> bool {
+    if net.length(wire) < 2 {
+        return false;
+    }
+    let (area, points) = (rectangle(obstacle), inside(net, wire));
+    let on = |axis: usize| points[axis] <= area[axis + 2] && area[axis] <= points[axis + 2];
+    on(0) && on(1)
 }
 
 /// The points inside a wire.

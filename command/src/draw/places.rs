@@ -3,7 +3,7 @@
 use super::marks;
 use super::scale::{between, meets, square, Area, Scale};
 use crate::library::{JUMPER_BYTES, REPAIR_MOST};
-use crate::net::Net;
+use crate::net::{Net, Obstacle};
 
 pub struct Place {
     pub wire: usize,
@@ -76,7 +76,7 @@ fn others(
         .collect()
 }
 
-/// A place further along the wire, if the wire is long and neither an obstacle nor another jumper lies between.
+/// A place further along the wire, if the wire is long and neither an obstacle that bars it nor another jumper lies between.
 fn along(
     net: &Net,
     scale: &Scale,
@@ -96,15 +96,16 @@ fn along(
     };
     let beyond = moved + (moved - t).signum() * scale.size.jumper / scale.step;
     let way = between(net.at(wire, t), net.at(wire, beyond));
-    let held = |corners: &[u16; 4]| {
-        let o = corners.map(f64::from);
-        o[0] <= way[2] && way[0] <= o[2] && o[1] <= way[3] && way[1] <= o[3]
+    let bars = |obstacle: &Obstacle| {
+        let o = obstacle.corners.map(f64::from);
+        let held = o[0] <= way[2] && way[0] <= o[2] && o[1] <= way[3] && way[1] <= o[3];
+        held && net.counts(obstacle, wire)
     };
     let on_way = |&(other, at): &(usize, usize)| {
         let at = at as f64;
         other == wire && at != t && t.min(beyond) <= at && at <= t.max(beyond)
     };
-    let clear = !net.obstacles.iter().any(held) && !jumpers.iter().any(on_way);
+    let clear = !net.obstacles.iter().any(bars) && !jumpers.iter().any(on_way);
     clear.then(|| scale.point(net.at(wire, moved)))
 }
 

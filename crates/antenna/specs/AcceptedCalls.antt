@@ -11,6 +11,7 @@ use Rattle.laws.specs.Sums.{no-both}
 use Rattle.net.specs.declared.Answer.{Answer}
 use Rattle.net.specs.declared.Refusal.{Refusal}
 use Rattle.net.specs.Formed.{Formed}
+use Rattle.net.specs.File.{versionOf}
 use Rattle.net.specs.Refusal.{answer, met, none, orElse, lentRefusal, nodesOf, wiresOf, obstaclesOf}
 use Rattle.net.specs.Layout.{recordBytes}
 use Rattle.net.specs.Call.{netAt, callRefusal}
@@ -25,9 +26,9 @@ use Rattle.lists.specs.Entries.{list-set-free, list-set-inside, list-set-size}
 use Rattle.reports.specs.Promise.{pieceCount, reportRefusal, reportAnswer}
 use Rattle.lists.specs.EntriesChecked.{list-none}
 
--- a call that meets none of 1 to 11: the net is formed
+-- a call that meets none of 1 to 11 and 20: the net is formed
 pub call-formed : (stage : ℕ) (file : List ℕ) → met (callRefusal stage file) ≡ false → Formed (netAt file stage)
-call-formed stage file u = formed (nodesOf file) (wiresOf file) (obstaclesOf file) (call-right stage file u) stage
+call-formed stage file u = formed (versionOf file) (nodesOf file) (wiresOf file) (obstaclesOf file) (call-right stage file u) stage
 
 -- a refusal that is not met has number 0
 unmet-zero : (r : Refusal) → met r ≡ false → r .number ≡ 0
@@ -60,7 +61,7 @@ module _ (stage : ℕ) (file list : List ℕ) (lent : ℕ) (r : Answer) (e : r �
       list-none (netAt file stage) list
       (unmet-zero (listRefusal (netAt file stage) list) (unmet-l (listRefusal (netAt file stage) list) (lentRefusal (recordBytes * pieceCount (netAt file stage) list) lent) report-list-lent))
 
-  pub report-right : NetRight (nodesOf file) (wiresOf file) (obstaclesOf file)
+  pub report-right : NetRight (versionOf file) (nodesOf file) (wiresOf file) (obstaclesOf file)
   report-right = call-right stage file report-call
 
   pub report-formed : Formed (netAt file stage)

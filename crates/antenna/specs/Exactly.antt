@@ -102,7 +102,7 @@ module _ {s : Stage} {limit : ℕ} {out after : List ℕ} {r : Answer} where
   one-answer (done l m w le e k) (done l′ m′ w′ le′ e′ k′) = e ∙ (ap (answer none) (same-count w w′) ∙ sym e′)
 
 module _ {stage limit : ℕ} {file out after : List ℕ} {r : Answer} (p : Repaired stage limit file out after r) (zero : r .number ≡ 0) where
-  -- done: the call met none of 1 to 11
+  -- done: the call met none of 1 to 11 and 20
   pub repair-unmet : met (callRefusal stage file) ≡ false
   repair-unmet =
       by (met (callRefusal stage file))

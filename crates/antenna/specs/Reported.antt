@@ -21,6 +21,7 @@ use Rattle.net.specs.Layout.{recordBytes}
 use Rattle.net.specs.Limits.{lengthBound}
 use Rattle.net.specs.Stage.{Stage, stageOf}
 use Rattle.net.specs.Formed.{Formed}
+use Rattle.net.specs.File.{versionOf}
 use Rattle.net.specs.Refusal.{stageRefusal, readRefusal, sectionOf, nodesOf, wiresOf, obstaclesOf}
 use Rattle.net.specs.Call.{netAt}
 use Rattle.net.specs.Accepted.{present-positive, present-inside}
@@ -198,5 +199,5 @@ module _ (stage limit : ℕ) (file list out after : List ℕ) (r : Answer) (byte
       subst (λ (l : List ℕ). Reported (netAt file stage) limit (setOf list) l (r .count)) (sym (b ∙ rw u))
       (subst (λ (n : ℕ). Reported (netAt file stage) limit (setOf list) (reportOf (netAt file stage) limit (setOf list) ++ rest) n) (sym (report-count stage file list (length out) r e zero))
       (records (netAt file stage) limit (setOf list) (report-formed stage file list (length out) r e zero) (report-inside stage file list (length out) r e zero)
-      (λ i p. length-small (nodesOf file) (wiresOf file) i (bytes-of 0) (checked-of right i (present-positive (nodesOf file) (wiresOf file) (obstaclesOf file) stage i p) (present-inside (nodesOf file) (wiresOf file) (obstaclesOf file) stage i p)))
-      (λ P. weight-fits (nodesOf file) (wiresOf file) (obstaclesOf file) right (bytes-of 0) (bytes-of 1) stage P) rest))
+      (λ i p. length-small (nodesOf file) (wiresOf file) i (bytes-of 0) (checked-of right i (present-positive (versionOf file) (nodesOf file) (wiresOf file) (obstaclesOf file) stage i p) (present-inside (versionOf file) (nodesOf file) (wiresOf file) (obstaclesOf file) stage i p)))
+      (λ P. weight-fits (versionOf file) (nodesOf file) (wiresOf file) (obstaclesOf file) right (bytes-of 0) (bytes-of 1) stage P) rest))

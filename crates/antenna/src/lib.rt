@@ -7,7 +7,7 @@ ghost use Rattle.net.specs.Refusal.{readAnswer, writeAnswer, writeBuffer};
 ghost use Rattle.reports.specs.Promise.{reportAnswer, reportBuffer};
 ghost use Rattle.def.specs.Promise.{defAnswer, defBuffer};
 
-// Reads a net file alone: 2 to 11, or the number of nodes.
+// Reads a net file alone: 2 to 11 and 20, or the number of nodes.
 #[no_mangle]
 pub extern "C" fn antenna_read(file: &[u8]) -> Answer
     ensures { λ r. ⌜ r ≡ readAnswer (now (file .entry)) ⌝ }
@@ -15,20 +15,21 @@ pub extern "C" fn antenna_read(file: &[u8]) -> Answer
     net::read::read(file)
 }
 
-// Writes the net file of three sections: 4 to 11, 16, or the number of bytes written.
+// Writes the net file of a version and three sections: 2, 4 to 11 and 20, 16, or the number of bytes written.
 #[no_mangle]
 pub extern "C" fn antenna_write(
+    version: u32,
     nodes: &[u8],
     wires: &[u8],
     obstacles: &[u8],
     out: &mut [u8],
 ) -> Answer
-    ensures { λ r. ⌜ (r ≡ writeAnswer (now (nodes .entry)) (now (wires .entry)) (now (obstacles .entry)) (length (now (out .entry)))) × (now (out .exit) ≡ writeBuffer (now (nodes .entry)) (now (wires .entry)) (now (obstacles .entry)) (now (out .entry))) ⌝ }
+    ensures { λ r. ⌜ (r ≡ writeAnswer version (now (nodes .entry)) (now (wires .entry)) (now (obstacles .entry)) (length (now (out .entry)))) × (now (out .exit) ≡ writeBuffer version (now (nodes .entry)) (now (wires .entry)) (now (obstacles .entry)) (now (out .entry))) ⌝ }
 {
-    net::write::write(nodes, wires, obstacles, out)
+    net::write::write(version, nodes, wires, obstacles, out)
 }
 
-// Reports every piece of a net at a stage with jumpers in place: 1, 2 to 11, 12 to 14, 16, or the number of records.
+// Reports every piece of a net at a stage with jumpers in place: 1, 2 to 11 and 20, 12 to 14, 16, or the number of records.
 #[no_mangle]
 pub extern "C" fn antenna_report(
     stage: u32,
@@ -42,7 +43,7 @@ pub extern "C" fn antenna_report(
     reports::report::report(stage, limit, file, jumpers, out)
 }
 
-// Finds a smallest legal jumper set of a net at a stage under a limit: 1, 2 to 11, 15, 16, or the number of jumpers written.
+// Finds a smallest legal jumper set of a net at a stage under a limit: 1, 2 to 11 and 20, 15, 16, or the number of jumpers written.
 #[no_mangle]
 pub extern "C" fn antenna_repair(stage: u32, limit: u32, file: &[u8], out: &mut [u8]) -> Answer
     ensures { λ r. ⌜ Repaired stage limit (now (file .entry)) (now (out .entry)) (now (out .exit)) r ⌝ }

@@ -10,6 +10,7 @@ use lib.ListN.{getD}
 use lib.Dec.{ltb, eqb}
 use borrow.Author.Tests.{ltb-true, ltb-false, eqb-true, eqb-false, lt-ltb}
 use Rattle.laws.specs.Sums.{by, no-both}
+use Rattle.net.specs.Layout.{newest}
 use Rattle.net.specs.Net.{nodeCount, wireLength, barred}
 use Rattle.net.specs.Stage.{stageOf}
 use Rattle.points.specs.Cuttable.{Checked, Lowest, Highest}
@@ -29,16 +30,16 @@ checked w i p q =
     }
 
 module _ (ns ws os : List ℕ) (k : ℕ) where
-  pub present-is : (i : ℕ) → i < nodeCount ns → stageOf ns ws os k .present i ≡ isPresent ws k i
+  pub present-is : (i : ℕ) → i < nodeCount ns → stageOf newest ns ws os k .present i ≡ isPresent ws k i
   unfolding stageOf
   present-is i p = rw (lt-ltb i (nodeCount ns) p)
 
   module _ (i : ℕ) (p : i < nodeCount ns) where
     -- a wire that is absent has no such point
-    not-absent : isPresent ws k i ≡ false → (t : ℕ) → freeAt (stageOf ns ws os k) i t ≡ true → ⊥
-    not-absent m t f = no-both (free-of (stageOf ns ws os k) i t f .present) (present-is i p ∙ m)
+    not-absent : isPresent ws k i ≡ false → (t : ℕ) → freeAt (stageOf newest ns ws os k) i t ≡ true → ⊥
+    not-absent m t f = no-both (free-of (stageOf newest ns ws os k) i t f .present) (present-is i p ∙ m)
 
-    pub lowest-absent : isPresent ws k i ≡ false → LowestFree (stageOf ns ws os k) i 0
+    pub lowest-absent : isPresent ws k i ≡ false → LowestFree (stageOf newest ns ws os k) i 0
     lowest-absent m =
         record {
           free = λ h. absurd (lt-irrefl 0 h);
@@ -46,46 +47,46 @@ module _ (ns ws os : List ℕ) (k : ℕ) where
           least = λ t f. omega arith;
         }
 
-    pub highest-absent : isPresent ws k i ≡ false → HighestFree (stageOf ns ws os k) i 0
+    pub highest-absent : isPresent ws k i ≡ false → HighestFree (stageOf newest ns ws os k) i 0
     highest-absent m = record { free = λ h. absurd (lt-irrefl 0 h); most = λ t f. absurd (not-absent m t f) }
 
     module _ (m : isPresent ws k i ≡ true) where
-      pub lowest-present : (r : ℕ) → Lowest (barred ns ws os i) 1 (wireLength ns ws i) r → LowestFree (stageOf ns ws os k) i r
+      pub lowest-present : (r : ℕ) → Lowest (barred newest ns ws os i) 1 (wireLength ns ws i) r → LowestFree (stageOf newest ns ws os k) i r
       unfolding stageOf
       lowest-present r l =
           record {
             free = λ h.
-                of-free (stageOf ns ws os k) i r (record {
+                of-free (stageOf newest ns ws os k) i r (record {
                   present = present-is i p ∙ m;
                   low = l .from h;
                   high = l .within h;
                   clear = l .free h;
                 });
             some = λ t f.
-                let g = free-of (stageOf ns ws os k) i t f in
+                let g = free-of (stageOf newest ns ws os k) i t f in
                 by (eqb r 0)
                 (λ y. absurd (no-both (l .none (eqb-true r 0 y) t (g .low) (g .high)) (g .clear)))
                 (λ n. let d = eqb-false r 0 n in omega arith);
             least = λ t f.
-                let g = free-of (stageOf ns ws os k) i t f in
+                let g = free-of (stageOf newest ns ws os k) i t f in
                 by (ltb t r)
                 (λ y. absurd (no-both (l .below t (g .low) (ltb-true t r y)) (g .clear)))
                 (λ n. ltb-false t r n);
           }
 
-      pub highest-present : (r : ℕ) → 0 < wireLength ns ws i → Highest (barred ns ws os i) (wireLength ns ws i - 1) r → HighestFree (stageOf ns ws os k) i r
+      pub highest-present : (r : ℕ) → 0 < wireLength ns ws i → Highest (barred newest ns ws os i) (wireLength ns ws i - 1) r → HighestFree (stageOf newest ns ws os k) i r
       unfolding stageOf
       highest-present r pos l =
           record {
             free = λ h.
-                of-free (stageOf ns ws os k) i r (record {
+                of-free (stageOf newest ns ws os k) i r (record {
                   present = present-is i p ∙ m;
                   low = omega arith;
                   high = omega (arith, l .within);
                   clear = l .free h;
                 });
             most = λ t f.
-                let g = free-of (stageOf ns ws os k) i t f in
+                let g = free-of (stageOf newest ns ws os k) i t f in
                 let high = g .high in
                 by (ltb r t)
                 (λ y. absurd (no-both (l .above t (ltb-true r t y) (omega arith)) (g .clear)))
@@ -93,26 +94,26 @@ module _ (ns ws os : List ℕ) (k : ℕ) where
           }
 
     -- a wire of length 0 has none
-    pub highest-short : wireLength ns ws i ≡ 0 → HighestFree (stageOf ns ws os k) i 0
+    pub highest-short : wireLength ns ws i ≡ 0 → HighestFree (stageOf newest ns ws os k) i 0
     unfolding stageOf
     highest-short e =
         record {
           free = λ h. absurd (lt-irrefl 0 h);
-          most = λ t f. let g = free-of (stageOf ns ws os k) i t f in let low = g .low in let high = g .high in omega arith;
+          most = λ t f. let g = free-of (stageOf newest ns ws os k) i t f in let low = g .low in let high = g .high in omega arith;
         }
 
   -- the points found lie on their wires
-  module _ (lo hi : List ℕ) (e : Ends (stageOf ns ws os k) lo hi) where
+  module _ (lo hi : List ℕ) (e : Ends (stageOf newest ns ws os k) lo hi) where
     pub inside-of : EndsInside ns ws lo hi
     unfolding stageOf
     inside-of =
         record {
           wire = λ i p h.
-              isPresent-positive ws k i (sym (present-is i p) ∙ free-of (stageOf ns ws os k) i (getD lo i 0) (e .low i p .free h) .present);
-          low = λ i p h. let g = free-of (stageOf ns ws os k) i (getD lo i 0) (e .low i p .free h) .high in omega arith;
+              isPresent-positive ws k i (sym (present-is i p) ∙ free-of (stageOf newest ns ws os k) i (getD lo i 0) (e .low i p .free h) .present);
+          low = λ i p h. let g = free-of (stageOf newest ns ws os k) i (getD lo i 0) (e .low i p .free h) .high in omega arith;
           high = λ i p h.
               let most = e .high i p .most (getD lo i 0) (e .low i p .free h) in
-              let g = free-of (stageOf ns ws os k) i (getD hi i 0) (e .high i p .free (omega arith)) .high in
+              let g = free-of (stageOf newest ns ws os k) i (getD hi i 0) (e .high i p .free (omega arith)) .high in
               omega arith;
         }
 

@@ -8,7 +8,7 @@ use mathlib.Core.Logic.{_⊎_}
 use lib.ListN.{length, getD}
 use lib.Dec.{leb, ltb, eqb}
 use Rattle.laws.specs.Sum.{χ, sum, any}
-use Rattle.net.specs.Layout.{wireBytes, mostNodes}
+use Rattle.net.specs.Layout.{newest, wireBytes, mostNodes}
 use Rattle.net.specs.Limits.{lengthBound, weightBound}
 use Rattle.net.specs.Net.{nodeCount, nodeX, nodeY, nodeFlags, isGate, isSource, wireParent, wireLayer, wireFactor, wireLength}
 use Rattle.net.specs.Stage.{Stage, stageOf}
@@ -111,7 +111,7 @@ pub record FirstLengths (n : ℕ) (lo hi root host component : List ℕ) (source
 
 -- what each of the first passes leaves in its array
 pub record Filled (ns ws os : List ℕ) (k : ℕ) (lo hi root host component : List ℕ) (sourced : List Bool) (fixed gates : List ℕ) : Type 0 where
-  pub ends : Ends (stageOf ns ws os k) lo hi
+  pub ends : Ends (stageOf newest ns ws os k) lo hi
   pub roots : Leads (nodeCount ns) (whole ws k lo) (wireParent ws) root
   pub hosts : (i : ℕ) → i < nodeCount ns → getD host i 0 ≡ hostOf ws lo root i
   pub components : Leads (nodeCount ns) (isPresent ws k) (wireParent ws) component
@@ -121,8 +121,8 @@ pub record Filled (ns ws os : List ℕ) (k : ℕ) (lo hi root host component : L
 
 -- what all of them promise: the arrays fit the net at the stage, and their numbers are small
 pub record Clustered (ns ws os : List ℕ) (k : ℕ) (lo hi root host component : List ℕ) (sourced : List Bool) (fixed gates : List ℕ) : Type 0 where
-  pub fits : Fits (stageOf ns ws os k) (clustersOf (stageOf ns ws os k) lo hi host fixed gates) (λ i. getD root i 0) (λ i. getD component i 0)
+  pub fits : Fits (stageOf newest ns ws os k) (clustersOf (stageOf newest ns ws os k) lo hi host fixed gates) (λ i. getD root i 0) (λ i. getD component i 0)
   pub components-fall : Falling (nodeCount ns) component
   pub sources : (c : ℕ) → c < nodeCount ns → getD sourced c false ≡ sourceIn ns component (nodeCount ns) c
-  pub light : allWeight (clustersOf (stageOf ns ws os k) lo hi host fixed gates) < weightBound
+  pub light : allWeight (clustersOf (stageOf newest ns ws os k) lo hi host fixed gates) < weightBound
   pub short : (r : ℕ) → r < nodeCount ns → getD hi r 0 < lengthBound

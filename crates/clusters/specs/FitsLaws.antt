@@ -11,7 +11,7 @@ use lib.Dec.{ltb, eqb}
 use borrow.Author.Tests.{ltb-true, ltb-false, lt-ltb}
 use Rattle.laws.specs.Sum.{χ}
 use Rattle.laws.specs.Sums.{by, and-intro, and-no-right, χ-and, sum-ap, sum-+, sum-bound}
-use Rattle.net.specs.Layout.{nodeBytes}
+use Rattle.net.specs.Layout.{newest, nodeBytes}
 use Rattle.net.specs.Limits.{lengthBound, wireWeightBound, weightBound}
 use Rattle.net.specs.Net.{nodeCount, nodeFlags, isGate, wireParent, wireFactor, wireLength}
 use Rattle.net.specs.Stage.{stageOf}
@@ -28,8 +28,8 @@ use Rattle.points.specs.Geometry.{length-small}
 use Rattle.laws.specs.Numbers.{Bytes}
 use Rattle.clusters.specs.Weights.{factor-≤}
 
--- a net that meets none of 4 to 11
-pub wired-of : {ns ws os : List ℕ} → NetRight ns ws os → Wired ns ws
+-- a net that meets none of 4 to 11 and 20
+pub wired-of : {ns ws os : List ℕ} → NetRight newest ns ws os → Wired ns ws
 wired-of n =
     record {
       some = omega (arith, n .sized .some-node);
@@ -39,12 +39,12 @@ wired-of n =
       straight = λ i p q. n .wire i p q .straight;
     }
 
-pub formed-of : {ns ws : List ℕ} → Wired ns ws → (os : List ℕ) (k : ℕ) → Formed (stageOf ns ws os k)
+pub formed-of : {ns ws : List ℕ} → Wired ns ws → (os : List ℕ) (k : ℕ) → Formed (stageOf newest ns ws os k)
 unfolding stageOf
 formed-of {ns} {ws} w os k =
     record {
-      inside = λ i p. present-inside ns ws os k i p;
-      below = λ i p. w .below i (present-positive ns ws os k i p) (present-inside ns ws os k i p);
+      inside = λ i p. present-inside newest ns ws os k i p;
+      below = λ i p. w .below i (present-positive newest ns ws os k i p) (present-inside newest ns ws os k i p);
     }
 
 -- ---- hosts
@@ -82,20 +82,20 @@ module _ (ns ws os : List ℕ) (k : ℕ) (w : Wired ns ws) (lo hi root host comp
   cuttable-isPresent : (i : ℕ) → i < nodeCount ns → cuttable lo i ≡ true → isPresent ws k i ≡ true
   unfolding stageOf
   cuttable-isPresent i p y =
-      sym (present-is ns ws os k i p) ∙ free-of (stageOf ns ws os k) i (getD lo i 0) (s .ends .low i p .free (ltb-true 0 (getD lo i 0) y)) .present
+      sym (present-is ns ws os k i p) ∙ free-of (stageOf newest ns ws os k) i (getD lo i 0) (s .ends .low i p .free (ltb-true 0 (getD lo i 0) y)) .present
 
   cuttable-leads : (i : ℕ) → i < nodeCount ns → cuttable lo i ≡ true → getD root i 0 ≡ i
   cuttable-leads i p y = rw (and-no-right (isPresent ws k i) {b = not (cuttable lo i)} (ap not y)) at (s .roots i p)
 
   fixed-parts : (r i : ℕ) → i < nodeCount ns →
-      fixedPart (stageOf ns ws os k) (clustersOf (stageOf ns ws os k) lo hi host fixed gates) (λ j. getD root j 0) r i
+      fixedPart (stageOf newest ns ws os k) (clustersOf (stageOf newest ns ws os k) lo hi host fixed gates) (λ j. getD root j 0) r i
       ≡ χ (eqb (getD root i 0) r) (lowerWeight ns ws k lo i) + χ (eqb (getD host i 0) r) (upperWeight ns ws lo hi i)
   unfolding fixedPart clustersOf stageOf
   fixed-parts r i p =
       by (cuttable lo i)
       (λ y.
       rw (y, cuttable-isPresent i p y, cuttable-leads i p y)
-      (cut-parts (stageOf ns ws os k .present i) (eqb i r) (eqb (getD host i 0) r) (wireLength ns ws i * wireFactor ws i) (getD lo i 0 * wireFactor ws i) ((wireLength ns ws i - getD hi i 0) * wireFactor ws i)))
+      (cut-parts (stageOf newest ns ws os k .present i) (eqb i r) (eqb (getD host i 0) r) (wireLength ns ws i * wireFactor ws i) (getD lo i 0 * wireFactor ws i) ((wireLength ns ws i - getD hi i 0) * wireFactor ws i)))
       (λ n.
       rw (n, present-is ns ws os k i p)
       (whole-parts (isPresent ws k i) (eqb (getD root i 0) r) (eqb i r) (eqb (getD host i 0) r) (wireLength ns ws i * wireFactor ws i) (getD lo i 0 * wireFactor ws i) ((wireLength ns ws i - getD hi i 0) * wireFactor ws i)))
@@ -105,13 +105,13 @@ module _ (ns ws os : List ℕ) (k : ℕ) (w : Wired ns ws) (lo hi root host comp
       omega (arith, leads-falling (isPresent ws k) (wireParent ws) (nodeCount ns) component (λ j q. isPresent-lower w k j q) (s .components) i p)
 
   live : (r i : ℕ) → i < nodeCount ns →
-      χ (eqb (getD root i 0) r && liveGate (stageOf ns ws os k) (λ j. getD component j 0) i) 1 ≡ χ (eqb (getD root i 0) r) (gateOf ns component marks i)
+      χ (eqb (getD root i 0) r && liveGate (stageOf newest ns ws os k) (λ j. getD component j 0) i) 1 ≡ χ (eqb (getD root i 0) r) (gateOf ns component marks i)
   unfolding liveGate sourced stageOf
   live r i p =
       rw (s .sources (getD component i 0) (component-inside i p))
       (χ-and (eqb (getD root i 0) r) (isGate (nodeFlags ns i) && not (sourceIn ns component (nodeCount ns) (getD component i 0))) 1)
 
-  pub fits-of : Fits (stageOf ns ws os k) (clustersOf (stageOf ns ws os k) lo hi host fixed gates) (λ i. getD root i 0) (λ i. getD component i 0)
+  pub fits-of : Fits (stageOf newest ns ws os k) (clustersOf (stageOf newest ns ws os k) lo hi host fixed gates) (λ i. getD root i 0) (λ i. getD component i 0)
   unfolding clustersOf stageOf
   fits-of =
       record {
@@ -157,11 +157,11 @@ weight-small ns ws nodes wires i =
     mul-le-mul l (factor-≤ ws wires i)
 
 module _ (ns ws os : List ℕ) (k : ℕ) (w : Wired ns ws) (nodes : Bytes ns) (wires : Bytes ws) (lo hi root host component : List ℕ) (marks : List Bool) (fixed gates : List ℕ) (s : Filled ns ws os k lo hi root host component marks fixed gates) where
-  pub light-of : allWeight (clustersOf (stageOf ns ws os k) lo hi host fixed gates) < weightBound
+  pub light-of : allWeight (clustersOf (stageOf newest ns ws os k) lo hi host fixed gates) < weightBound
   unfolding stageOf
   light-of =
       let a =
-      allWeight-≤ (stageOf ns ws os k) (clustersOf (stageOf ns ws os k) lo hi host fixed gates) (λ i. getD root i 0) (λ i. getD component i 0)
+      allWeight-≤ (stageOf newest ns ws os k) (clustersOf (stageOf newest ns ws os k) lo hi host fixed gates) (λ i. getD root i 0) (λ i. getD component i 0)
       (formed-of w os k)
       (fits-of ns ws os k w lo hi root host component marks fixed gates s) in
       let b = sum-bound (nodeCount ns) (2 * wireWeightBound) {f = λ i. wireLength ns ws i * wireFactor ws i} (λ i p. weight-small ns ws nodes wires i) in
@@ -169,12 +169,12 @@ module _ (ns ws os : List ℕ) (k : ℕ) (w : Wired ns ws) (nodes : Bytes ns) (w
       omega arith
 
 -- the positions found are small
-pub short-of : (ns ws os : List ℕ) (k : ℕ) → Wired ns ws → Bytes ns → (lo hi : List ℕ) → Ends (stageOf ns ws os k) lo hi → (r : ℕ) → r < nodeCount ns → getD hi r 0 < lengthBound
+pub short-of : (ns ws os : List ℕ) (k : ℕ) → Wired ns ws → Bytes ns → (lo hi : List ℕ) → Ends (stageOf newest ns ws os k) lo hi → (r : ℕ) → r < nodeCount ns → getD hi r 0 < lengthBound
 unfolding stageOf
 short-of ns ws os k w nodes lo hi e r p =
     by (ltb 0 (getD hi r 0))
     (λ y.
-    let f = free-of (stageOf ns ws os k) r (getD hi r 0) (e .high r p .free (ltb-true 0 (getD hi r 0) y)) in
-    let small = length-small ns ws r nodes (checked w r (present-positive ns ws os k r (f .present)) p) in
+    let f = free-of (stageOf newest ns ws os k) r (getD hi r 0) (e .high r p .free (ltb-true 0 (getD hi r 0) y)) in
+    let small = length-small ns ws r nodes (checked w r (present-positive newest ns ws os k r (f .present)) p) in
     omega (arith, f .high, small))
     (λ n. let z = ltb-false 0 (getD hi r 0) n in omega arith)

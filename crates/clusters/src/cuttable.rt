@@ -6,6 +6,7 @@ use points::length_of;
 use points::lowest_cuttable;
 ghost use Prim.Native.Nat.{_<_, _≤_};
 ghost use lib.ListN.{length};
+ghost use Rattle.net.specs.Layout.{newest};
 ghost use Rattle.net.specs.Net.{nodeCount};
 ghost use Rattle.net.specs.Stage.{stageOf};
 ghost use Rattle.clusters.specs.FirstPasses.{Wired, LowestFree, HighestFree, Ends};
@@ -13,7 +14,7 @@ ghost use Rattle.clusters.specs.FirstPasses.{Wired, LowestFree, HighestF
 // The lowest position of wire i that may be cut, or 0 where there is none.
 fn lowest_of(nodes: &[u8], wires: &[u8], obstacles: &[u8], stage: u8, i: usize) -> u64
     requires { ⌜ Wired (now nodes) (now wires) × (i < nodeCount (now nodes)) ⌝ }
-    ensures { λ r. ⌜ LowestFree (stageOf (now (nodes .entry)) (now (wires .entry)) (now (obstacles .entry)) stage) i r ⌝ }
+    ensures { λ r. ⌜ LowestFree (stageOf newest (now (nodes .entry)) (now (wires .entry)) (now (obstacles .entry)) stage) i r ⌝ }
 {
     if is_present(stage, wires, i) {
         return lowest_cuttable(nodes, wires, obstacles, i, 1) as u64;
@@ -24,7 +25,7 @@ fn lowest_of(nodes: &[u8], wires: &[u8], obstacles: &[u8], stage: u8, i: usize) 
 // The highest one.
 fn highest_of(nodes: &[u8], wires: &[u8], obstacles: &[u8], stage: u8, i: usize) -> u64
     requires { ⌜ Wired (now nodes) (now wires) × (i < nodeCount (now nodes)) ⌝ }
-    ensures { λ r. ⌜ HighestFree (stageOf (now (nodes .entry)) (now (wires .entry)) (now (obstacles .entry)) stage) i r ⌝ }
+    ensures { λ r. ⌜ HighestFree (stageOf newest (now (nodes .entry)) (now (wires .entry)) (now (obstacles .entry)) stage) i r ⌝ }
 {
     if is_present(stage, wires, i) {
         let length = length_of(nodes, wires, i);
@@ -46,7 +47,7 @@ pub fn find_cuttable(
 )
     requires { ⌜ Wired (now nodes) (now wires) ⌝ }
     requires { ⌜ (nodeCount (now nodes) ≤ length (now lo)) × (nodeCount (now nodes) ≤ length (now hi)) ⌝ }
-    ensures { λ _. ⌜ Ends (stageOf (now (nodes .entry)) (now (wires .entry)) (now (obstacles .entry)) stage) (now (lo .exit)) (now (hi .exit)) ⌝ }
+    ensures { λ _. ⌜ Ends (stageOf newest (now (nodes .entry)) (now (wires .entry)) (now (obstacles .entry)) stage) (now (lo .exit)) (now (hi .exit)) ⌝ }
 {
     let n = node_count(nodes);
     let mut i: usize = 0;

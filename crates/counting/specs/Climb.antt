@@ -5,7 +5,7 @@ use mathlib.Core.Path.{_≡_}
 use mathlib.Core.Bool.{Bool, true, false, not, _&&_}
 use mathlib.Core.List.{List}
 use lib.Dec.{leb, ltb}
-use Rattle.net.specs.Layout.{mostNodes}
+use Rattle.net.specs.Layout.{newest, mostNodes}
 use Rattle.net.specs.Limits.{weightBound}
 use Rattle.net.specs.Net.{wireFactor, wireLength, barred}
 use Rattle.points.specs.Cuttable.{Checked}
@@ -15,9 +15,9 @@ use Rattle.cuts.specs.Passes.{Down, Climbed}
 use Rattle.counting.specs.declared.close.Closing.{Closing}
 use Rattle.counting.specs.declared.climb.Climbing.{Climbing}
 
--- position t lies inside wire i, and no obstacle holds it
+-- position t lies inside wire i, and no obstacle bars it
 unfoldable pub openAt : List ℕ → List ℕ → List ℕ → ℕ → ℕ → Bool
-openAt ns ws os i t = leb 1 t && (ltb t (wireLength ns ws i) && not (barred ns ws os i t))
+openAt ns ws os i t = leb 1 t && (ltb t (wireLength ns ws i) && not (barred newest ns ws os i t))
 
 -- wire i has an open position; lo and hi are the lowest and the highest
 pub record Branch (ns ws os : List ℕ) (i lo hi : ℕ) : Type 0 where

@@ -9,6 +9,7 @@ use native.Mathlib.Nat.{mul-div-le, lt-mul-div-succ, mul-le-mul-left, lt-of-mul-
 use lib.Dec.{leb, ltb}
 use borrow.Author.Tests.{leb-true, ltb-true, le-leb, lt-ltb, lt-leb, not-true}
 use Rattle.laws.specs.Sums.{by, no-both, and-left, and-right}
+use Rattle.net.specs.Layout.{newest}
 use Rattle.net.specs.Net.{wireFactor, wireLength, barred}
 use Rattle.points.specs.Cuttable.{Highest}
 use Rattle.cuts.specs.Passes.{without-gate, within-limit, with-jumper}
@@ -20,19 +21,19 @@ use Rattle.counting.specs.Climb.{openAt, Branch, LastWithin, Climbs}
 module _ (ns ws os : List ℕ) (i : ℕ) where
   pub open-low : (t : ℕ) → openAt ns ws os i t ≡ true → 1 ≤ t
   unfolding openAt
-  open-low t e = leb-true 1 t (and-left (leb 1 t) (ltb t (wireLength ns ws i) && not (barred ns ws os i t)) e)
+  open-low t e = leb-true 1 t (and-left (leb 1 t) (ltb t (wireLength ns ws i) && not (barred newest ns ws os i t)) e)
 
-  inner : (t : ℕ) → openAt ns ws os i t ≡ true → (ltb t (wireLength ns ws i) && not (barred ns ws os i t)) ≡ true
+  inner : (t : ℕ) → openAt ns ws os i t ≡ true → (ltb t (wireLength ns ws i) && not (barred newest ns ws os i t)) ≡ true
   unfolding openAt
-  inner t e = and-right (leb 1 t) (ltb t (wireLength ns ws i) && not (barred ns ws os i t)) e
+  inner t e = and-right (leb 1 t) (ltb t (wireLength ns ws i) && not (barred newest ns ws os i t)) e
 
   pub open-high : (t : ℕ) → openAt ns ws os i t ≡ true → t < wireLength ns ws i
-  open-high t e = ltb-true t (wireLength ns ws i) (and-left (ltb t (wireLength ns ws i)) (not (barred ns ws os i t)) (inner t e))
+  open-high t e = ltb-true t (wireLength ns ws i) (and-left (ltb t (wireLength ns ws i)) (not (barred newest ns ws os i t)) (inner t e))
 
-  pub open-clear : (t : ℕ) → openAt ns ws os i t ≡ true → barred ns ws os i t ≡ false
-  open-clear t e = not-true (barred ns ws os i t) (and-right (ltb t (wireLength ns ws i)) (not (barred ns ws os i t)) (inner t e))
+  pub open-clear : (t : ℕ) → openAt ns ws os i t ≡ true → barred newest ns ws os i t ≡ false
+  open-clear t e = not-true (barred newest ns ws os i t) (and-right (ltb t (wireLength ns ws i)) (not (barred newest ns ws os i t)) (inner t e))
 
-  pub open-if : (t : ℕ) → 1 ≤ t → t < wireLength ns ws i → barred ns ws os i t ≡ false → openAt ns ws os i t ≡ true
+  pub open-if : (t : ℕ) → 1 ≤ t → t < wireLength ns ws i → barred newest ns ws os i t ≡ false → openAt ns ws os i t ≡ true
   unfolding openAt
   open-if t a b c = rw (le-leb 1 t a, lt-ltb t (wireLength ns ws i) b, c)
 
@@ -55,7 +56,7 @@ pub last-within :
     Branch ns ws os i lo hi →
     weight ≤ limit →
     limit < weight + stretchWeight ws i lo hi →
-    Highest (barred ns ws os i) (lo + (limit - weight) / wireFactor ws i) near →
+    Highest (barred newest ns ws os i) (lo + (limit - weight) / wireFactor ws i) near →
     LastWithin ns ws os i lo hi weight limit near
 last-within ns ws os i lo hi weight limit near b w l h =
     let f = wireFactor ws i in

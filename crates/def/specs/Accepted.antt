@@ -44,11 +44,11 @@ module _ (text : List ℕ) (place : ℕ) (pins obstacles out : List ℕ) (done :
       eqb-true _ 0 (not-false _ (unmet-l (pinsRefusal (routeNodes text place) pins) _ (unmet-r (routeRefusal text place) _ unmet)))
 
   -- the bytes that the call counts
-  pub def-holds : Holds (take (defAnswer text place pins obstacles (length out) .count) (defBuffer text place pins obstacles out)) (defNodes text place pins) (defWires text place) obstacles
+  pub def-holds : Holds (take (defAnswer text place pins obstacles (length out) .count) (defBuffer text place pins obstacles out)) 1 (defNodes text place pins) (defWires text place) obstacles
   def-holds =
       let w = answered-written text place pins obstacles out route-unmet _ refl pins-unmet refl refl refl (refl, refl) in
       rw (← w .0, ← w .1)
-      (written-reads-back (defNodes text place pins) (defWires text place) obstacles out (ap (λ a. a .number) (w .0) ∙ done))
+      (written-reads-back 1 (defNodes text place pins) (defWires text place) obstacles out (ap (λ a. a .number) (w .0) ∙ done))
 
   -- its nodes: as many as the route's
   pub def-nodes : nodeCount (nodesOf (take (defAnswer text place pins obstacles (length out) .count) (defBuffer text place pins obstacles out))) ≡ length (routeNodes text place)

@@ -17,6 +17,7 @@ use Rattle.routes.specs.Table.{RouteRead}
 use Rattle.def.specs.Pins.{pinsRefusal}
 use Rattle.def.specs.Written.{Ended}
 use Rattle.def.specs.Sectioning.{too-many}
+use Rattle.def.specs.Ending.{first-version}
 use Rattle.def.specs.Promise.{defNodes, defWires, defRefusal, defAnswer, defBuffer}
 
 -- the route is met by neither 17 nor 18
@@ -53,7 +54,7 @@ module _ (text : List ℕ) (place : ℕ) (pins obstacles out : List ℕ) where
         answered-refused (rest-of (routeRefusal text place) _ refl u (first-of (pinsRefusal (routeNodes text place) pins) _ q m)) m
 
     module _ (r : Refusal) (q : r ≡ pinsRefusal (routeNodes text place) pins) (h : r .number ≡ 0) where
-      def-write : writeRefusal (defNodes text place pins) (defWires text place) obstacles (length out) ≡ defRefusal text place pins obstacles (length out)
+      def-write : writeRefusal 1 (defNodes text place pins) (defWires text place) obstacles (length out) ≡ defRefusal text place pins obstacles (length out)
       unfolding defRefusal
       def-write = rest-of (routeRefusal text place) _ refl u (rest-of (pinsRefusal (routeNodes text place) pins) _ q (unmet-number r h) refl)
 
@@ -61,7 +62,7 @@ module _ (text : List ℕ) (place : ℕ) (pins obstacles out : List ℕ) where
       pub answered-many : mostNodes < length (routeNodes text place) → {s : Refusal} {a : Answer} → s ≡ refusal 4 0 → a ≡ answer s 0 → Answered a out
       answered-many l e =
           let t = too-many (routeNodes text place) pins (defWires text place) obstacles l in
-          answered-refused (e ∙ (write-net (defNodes text place pins) (defWires text place) obstacles (length out) _ t refl ∙ def-write)) (ap met e)
+          answered-refused (e ∙ (write-net 1 (defNodes text place pins) (defWires text place) obstacles (length out) _ first-version t refl ∙ def-write)) (ap met e)
 
       -- the sections are written, or refused by one of 4 to 11 and 16
       pub answered-written : {ns ws : List ℕ} {stop : ℕ} {a : Answer} {after : List ℕ} → ns ≡ defNodes text place pins → ws ≡ defWires text place → stop ≡ routeEnd text place

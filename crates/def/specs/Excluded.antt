@@ -10,7 +10,7 @@ use Rattle.laws.specs.Sum.{any, lowest}
 use Rattle.laws.specs.Gather.{gather}
 use Rattle.net.specs.declared.Answer.{Answer}
 use Rattle.net.specs.File.{headOf, fileOf}
-use Rattle.net.specs.Refusal.{firstOf, sectionsRefusal, nodeRefusal, wireRefusal, obstacleRefusal, netRefusal, writeRefusal}
+use Rattle.net.specs.Refusal.{firstOf, sectionsRefusal, nodeRefusal, wireRefusal, obstacleRefusal, isVersion, netRefusal, writeRefusal}
 use Rattle.words.specs.Words.{blank, leading, wordStart, wordEnd, spelling, same, digit, digits, valueFrom, isNumber, layerDigits, layerOf}
 use Rattle.paths.specs.Form.{isCoordinate, coordinate, pointFrom, pathFrom, behind, beginning, pointIn, onward, readPoints, readEnding, start, pointsOf, endingOf}
 use Rattle.routes.specs.Nodes.{knownAt, lowestAt, known, numberOn, madeBy, reach, nodesFrom, pointRefused, pointsRefusal, formRefusal, routeRefusal, routeNodes, endOf, routeEnd}
@@ -42,7 +42,7 @@ pub record SmallTexts : Type 0 where
   pub answered : answerTo twoPaths ends 60 ≡ record { number = 0; place = 62; count = 57 }
   -- four nodes: (13, 0) once on each layer; three wires: the one between those two is a via of layer 2; no obstacle; behind it the three bytes that were there
   pub written : defBuffer (bytesOf twoPaths) 0 ends [] (replicate 60 7) ≡
-      headOf 20 9 0
+      headOf 1 20 9 0
       ++ (0 ∷ 0 ∷ 0 ∷ 0 ∷ 1 ∷ 13 ∷ 0 ∷ 0 ∷ 0 ∷ 0 ∷ 13 ∷ 0 ∷ 0 ∷ 0 ∷ 0 ∷ 13 ∷ 0 ∷ 7 ∷ 0 ∷ 2 ∷ [])
       ++ (0 ∷ 1 ∷ 1 ∷ 1 ∷ 2 ∷ 1 ∷ 2 ∷ 2 ∷ 1 ∷ [])
       ++ (7 ∷ 7 ∷ 7 ∷ [])
@@ -66,8 +66,9 @@ pub record SmallTexts : Type 0 where
   -- 19: a pin that meets no node on its layer, or is cut short, before 7
   pub no-node : answerTo twoPaths (pin 0 0 1 4 ++ pin 13 7 1 1) 99 ≡ record { number = 19; place = 1; count = 0 }
   pub cut-pin : answerTo twoPaths (ends ++ (0 ∷ [])) 99 ≡ record { number = 19; place = 2; count = 0 }
-  -- 6, 7, 10 and 11 come before 16, 16 last
+  -- 6, 7, 10 and 11 come before 16, 16 last; a version 2 obstacle, of nine bytes, meets 6
   pub six : defAnswer (bytesOf twoPaths) 0 [] (0 ∷ []) 0 ≡ record { number = 6; place = 0; count = 0 }
+  pub six-nine : defAnswer (bytesOf twoPaths) 0 [] (0 ∷ 0 ∷ 0 ∷ 0 ∷ 0 ∷ 0 ∷ 0 ∷ 0 ∷ 1 ∷ []) 0 ≡ record { number = 6; place = 0; count = 0 }
   pub seven : answerTo twoPaths (pin 13 0 2 4) 0 ≡ record { number = 7; place = 2; count = 0 }
   pub ten : answerTo "+ ROUTED metal1 ( 0 0 ) ( 3 4 ) ;" [] 0 ≡ record { number = 10; place = 1; count = 0 }
   pub eleven : defAnswer (bytesOf twoPaths) 0 [] (1 ∷ 0 ∷ 0 ∷ 0 ∷ 0 ∷ 0 ∷ 0 ∷ 0 ∷ []) 0 ≡ record { number = 11; place = 0; count = 0 }
@@ -77,5 +78,5 @@ pub record SmallTexts : Type 0 where
   pub via-down : defWires (bytesOf "+ ROUTED metal2 ( 0 0 ) ( 5 0 ) NEW metal1 ( 5 0 ) ( 5 5 ) ;") 0 ≡ 0 ∷ 2 ∷ 1 ∷ 1 ∷ 2 ∷ 1 ∷ 2 ∷ 1 ∷ 1 ∷ []
 
 pub small-texts : SmallTexts
-unfolding blank leading wordStart wordEnd spelling same digit digits valueFrom isNumber layerDigits layerOf isCoordinate coordinate pointFrom pathFrom behind beginning pointIn onward readPoints readEnding start pointsOf endingOf knownAt lowestAt known numberOn madeBy reach nodesFrom pointRefused pointsRefusal formRefusal routeRefusal routeNodes endOf routeEnd any lowest gather firstOf sectionsRefusal nodeRefusal wireRefusal obstacleRefusal netRefusal writeRefusal headOf fileOf pinRefusal pinsRefusal flagsOf nodeRecord nodeSection wireSection defRefusal defAnswer defBuffer
-small-texts = record { answered = refl; written = refl; wrong-word = refl; cut-word = refl; no-word = refl; next-text = refl; past-end = refl; star-first = refl; star-new = refl; one-point = refl; not-whole = refl; known-point = refl; unknown-start = refl; eighteen-first = refl; no-node = refl; cut-pin = refl; six = refl; seven = refl; ten = refl; eleven = refl; sixteen = refl; joined = refl; via-down = refl }
+unfolding blank leading wordStart wordEnd spelling same digit digits valueFrom isNumber layerDigits layerOf isCoordinate coordinate pointFrom pathFrom behind beginning pointIn onward readPoints readEnding start pointsOf endingOf knownAt lowestAt known numberOn madeBy reach nodesFrom pointRefused pointsRefusal formRefusal routeRefusal routeNodes endOf routeEnd any lowest gather firstOf sectionsRefusal nodeRefusal wireRefusal obstacleRefusal isVersion netRefusal writeRefusal headOf fileOf pinRefusal pinsRefusal flagsOf nodeRecord nodeSection wireSection defRefusal defAnswer defBuffer
+small-texts = record { answered = refl; written = refl; wrong-word = refl; cut-word = refl; no-word = refl; next-text = refl; past-end = refl; star-first = refl; star-new = refl; one-point = refl; not-whole = refl; known-point = refl; unknown-start = refl; eighteen-first = refl; no-node = refl; cut-pin = refl; six = refl; six-nine = refl; seven = refl; ten = refl; eleven = refl; sixteen = refl; joined = refl; via-down = refl }

@@ -1,4 +1,4 @@
--- Theorem: which numbers the call can answer with. 5, 8 and 9 never: the wire section that it makes has its right length, each parent in it is below its wire, layers are 1 to 16 and factors 1.
+-- Theorem: which numbers the call can answer with. 5, 8 and 9 never: the wire section that it makes has its right length, each parent in it is below its wire, layers are 1 to 16 and factors 1. Nor 2 and 20: the call writes version 1, whose obstacles read as layer 16.
 -- Assumes nothing.
 use Prim.Native.Nat.{ℕ, zero, suc, _+_, _-_, _*_, _%_, _<_}
 use mathlib.Core.Path.{_≡_, refl}
@@ -15,7 +15,7 @@ use Rattle.net.specs.declared.Refusal.{Refusal}
 use Rattle.net.specs.Layout.{nodeBytes, wireBytes, obstacleBytes, mostNodes, mostObstacles, mostLayers, mostFlags}
 use Rattle.net.specs.Net.{nodeCount, nodeX, nodeY, nodeFlags, wireParent, wireLayer, wireFactor, obstacleCount, obstacleX1, obstacleY1, obstacleX2, obstacleY2}
 use Rattle.net.specs.File.{fileBytes}
-use Rattle.net.specs.Refusal.{refusedIf, met, orElse, firstOf, sectionsRefusal, nodeRefusal, wireRefusal, obstacleRefusal, netRefusal, writeRefusal}
+use Rattle.net.specs.Refusal.{refusedIf, met, orElse, firstOf, sectionsRefusal, nodeRefusal, wireRefusal, obstacleRefusal, isVersion, netRefusal, writeRefusal}
 use Rattle.paths.specs.declared.Point.{Point}
 use Rattle.paths.specs.declared.Read.{Read}
 use Rattle.paths.specs.declared.Read.the-variants.{Wrong, End, Whole}
@@ -77,23 +77,25 @@ pins-listed nodes pins =
     listed-first (pinCount pins)
     (λ k l. listed-if (ltb (length pins) (pinBytes * k + pinBytes) || not (known nodes (pinX pins k) (pinY pins k) (pinLayer pins k))) 19 k refl)
 
--- 7 and 11
+-- 7; 11, and not 20
 node-listed : (ns : List ℕ) (i : ℕ) → Listed (nodeRefusal ns i)
 unfolding nodeRefusal
 node-listed ns i = listed-if (ltb mostFlags (nodeFlags ns i)) 7 i refl
 
-obstacle-listed : (os : List ℕ) (k : ℕ) → Listed (obstacleRefusal os k)
+obstacle-listed : (os : List ℕ) (k : ℕ) → Listed (obstacleRefusal 1 os k)
 unfolding obstacleRefusal
-obstacle-listed os k = listed-if (ltb (obstacleX2 os k) (obstacleX1 os k) || ltb (obstacleY2 os k) (obstacleY1 os k)) 11 k refl
+obstacle-listed os k =
+    listed-or (listed-if (ltb (obstacleX2 1 os k) (obstacleX1 1 os k) || ltb (obstacleY2 1 os k) (obstacleY1 1 os k)) 11 k refl)
+    (λ u. record { number = refl })
 
 -- 4 and 6, and not 5
 module _ (nodes : List Node) (pins obstacles : List ℕ) where
-  sections-listed : Listed (sectionsRefusal (nodeSection nodes pins) (wireSection nodes) obstacles)
+  sections-listed : Listed (sectionsRefusal 1 (nodeSection nodes pins) (wireSection nodes) obstacles)
   unfolding sectionsRefusal
   sections-listed =
       let ns = nodeSection nodes pins in
       let wrong-nodes = not (eqb (length ns % nodeBytes) 0) || (eqb (nodeCount ns) 0 || ltb mostNodes (nodeCount ns)) in
-      let wrong-obstacles = not (eqb (length obstacles % obstacleBytes) 0) || ltb mostObstacles (obstacleCount obstacles) in
+      let wrong-obstacles = not (eqb (length obstacles % obstacleBytes 1) 0) || ltb mostObstacles (obstacleCount 1 obstacles) in
       rw (eq-eqb _ _ (wires-length nodes pins))
       (listed-or (listed-if wrong-nodes 4 0 refl) (λ u. listed-if wrong-obstacles 6 0 refl))
 
@@ -120,7 +122,7 @@ module _ (nodes : List Node) (pins obstacles : List ℕ) where
         )
         (listed-if oblique 10 (i + 1) refl)
 
-    net-listed : Listed (netRefusal (nodeSection nodes pins) (wireSection nodes) obstacles)
+    net-listed : Listed (netRefusal 1 (nodeSection nodes pins) (wireSection nodes) obstacles)
     unfolding netRefusal
     net-listed =
         let ns = nodeSection nodes pins in
@@ -128,11 +130,11 @@ module _ (nodes : List Node) (pins obstacles : List ℕ) where
         listed-or sections-listed
         (λ u. listed-or (listed-first (nodeCount ns) (λ i l. node-listed ns i))
         (λ v. listed-or (listed-first (nodeCount ns - 1) (λ i l. wire-listed i (omega arith)))
-        (λ w. listed-first (obstacleCount obstacles) (λ k l. obstacle-listed obstacles k))))
+        (λ w. listed-first (obstacleCount 1 obstacles) (λ k l. obstacle-listed obstacles k))))
 
 -- 17 and 18, then 19, then these and 16
 pub def-number : (text : List ℕ) (place : ℕ) (pins obstacles : List ℕ) (lent : ℕ) → isOneOf (defAnswer text place pins obstacles lent .number) defNumbers ≡ true
-unfolding defAnswer defRefusal writeRefusal
+unfolding defAnswer defRefusal writeRefusal isVersion
 def-number text place pins obstacles lent =
     let nodes = routeNodes text place in
     let ns = nodeSection nodes pins in

@@ -19,11 +19,11 @@ defNodes text place pins = nodeSection (routeNodes text place) pins
 abbrev pub defWires : List ℕ → ℕ → List ℕ
 defWires text place = wireSection (routeNodes text place)
 
--- 17 and 18, then 19, then 4 to 11 on the sections and 16
+-- 17 and 18, then 19, then 4 to 11 on the sections, of version 1, and 16
 unfoldable pub defRefusal : List ℕ → ℕ → List ℕ → List ℕ → ℕ → Refusal
 defRefusal text place pins obstacles lent =
     orElse (routeRefusal text place)
-    (orElse (pinsRefusal (routeNodes text place) pins) (writeRefusal (defNodes text place pins) (defWires text place) obstacles lent))
+    (orElse (pinsRefusal (routeNodes text place) pins) (writeRefusal 1 (defNodes text place pins) (defWires text place) obstacles lent))
 
 -- done: the place after `;`, and the count of the bytes written
 unfoldable pub defAnswer : List ℕ → ℕ → List ℕ → List ℕ → ℕ → Answer
@@ -39,5 +39,5 @@ defAnswer text place pins obstacles lent =
 unfoldable pub defBuffer : List ℕ → ℕ → List ℕ → List ℕ → List ℕ → List ℕ
 defBuffer text place pins obstacles out =
     cond (met (defRefusal text place pins obstacles (length out))) out
-    (fileOf (defNodes text place pins) (defWires text place) obstacles
+    (fileOf 1 (defNodes text place pins) (defWires text place) obstacles
     ++ drop (fileBytes (defNodes text place pins) (defWires text place) obstacles) out)

@@ -64,8 +64,8 @@ module _ (nodes : List Node) (pins : List ℕ) where
   wires-length = rw nodes-count (length-records wireBytes (λ i. wireRecord (nodeAt nodes (i + 1))) (λ i. refl) (length nodes - 1))
 
   -- more nodes than a net may have: 4
-  pub too-many : (ws os : List ℕ) → mostNodes < length nodes → refusal 4 0 ≡ netRefusal (nodeSection nodes pins) ws os
+  pub too-many : (ws os : List ℕ) → mostNodes < length nodes → refusal 4 0 ≡ netRefusal 1 (nodeSection nodes pins) ws os
   unfolding netRefusal
   too-many ws os h =
       let n = nodes-length in
-      first-of _ _ (sections-many (nodeSection nodes pins) ws os (omega arith) (λ z. omega arith) (omega arith)) refl
+      first-of _ _ (sections-many 1 (nodeSection nodes pins) ws os (omega arith) (λ z. omega arith) (omega arith)) refl

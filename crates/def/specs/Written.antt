@@ -31,4 +31,4 @@ withPlace a stop = record { number = a .number; place = cond (not (eqb (a .numbe
 -- what is answered, and what the lent buffer then holds
 abbrev pub Ended : List ℕ → List ℕ → List ℕ → ℕ → List ℕ → Answer → List ℕ → Type 0
 Ended nodes wires obstacles stop out a after =
-    (a ≡ withPlace (writeAnswer nodes wires obstacles (length out)) stop) × (after ≡ writeBuffer nodes wires obstacles out)
+    (a ≡ withPlace (writeAnswer 1 nodes wires obstacles (length out)) stop) × (after ≡ writeBuffer 1 nodes wires obstacles out)

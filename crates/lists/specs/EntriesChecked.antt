@@ -25,8 +25,8 @@ use Rattle.pieces.specs.JumperList.{entryCount, pointRefusal, entryRefusal, lis
 abbrev pub WiresChecked : List ℕ → List ℕ → Type 0
 WiresChecked ns ws = (i : ℕ) → 0 < i → i < nodeCount ns → Checked ns ws i
 
-pub wires-checked : (ns ws os : List ℕ) → netRefusal ns ws os ≡ none → WiresChecked ns ws
-wires-checked ns ws os r i p h = checked-of (net-right ns ws os r) i p h
+pub wires-checked : (v : ℕ) (ns ws os : List ℕ) → netRefusal v ns ws os ≡ none → WiresChecked ns ws
+wires-checked v ns ws os r i p h = checked-of (net-right v ns ws os r) i p h
 
 -- there is a wire i, stage k has it, and position t lies inside it
 unfoldable pub liesInside : List ℕ → List ℕ → ℕ → ℕ → ℕ → Bool
@@ -109,17 +109,17 @@ module _ (ns ws : List ℕ) (k i t : ℕ) (h : true ≡ liesInside ns ws k i t) 
       omega arith
 
 -- a point: each test after those before it
-module _ (ns ws os : List ℕ) (k i t place : ℕ) where
-  pub point-outside : false ≡ liesInside ns ws k i t → refusal 13 place ≡ pointRefusal (stageOf ns ws os k) i t place
+module _ (v : ℕ) (ns ws os : List ℕ) (k i t place : ℕ) where
+  pub point-outside : false ≡ liesInside ns ws k i t → refusal 13 place ≡ pointRefusal (stageOf v ns ws os k) i t place
   unfolding pointRefusal stageOf liesInside
   point-outside h = rw (← h)
 
   module _ (a : true ≡ liesInside ns ws k i t) where
-    pub point-barred : true ≡ barred ns ws os i t → refusal 14 place ≡ pointRefusal (stageOf ns ws os k) i t place
+    pub point-barred : true ≡ barred v ns ws os i t → refusal 14 place ≡ pointRefusal (stageOf v ns ws os k) i t place
     unfolding pointRefusal stageOf liesInside
     point-barred h = rw (← a, ← h)
 
-    pub point-right : false ≡ barred ns ws os i t → none ≡ pointRefusal (stageOf ns ws os k) i t place
+    pub point-right : false ≡ barred v ns ws os i t → none ≡ pointRefusal (stageOf v ns ws os k) i t place
     unfolding pointRefusal stageOf liesInside
     point-right h = rw (← a, ← h)
 

@@ -18,14 +18,14 @@ use Rattle.pieces.specs.JumperList.{entryCount, listRefusal, setOf}
 use Rattle.lists.specs.Entries.{list-set-free, list-set-size}
 
 -- each wire has fewer points than lengthBound, and each entry is a point of its own
-module _ (ns ws os : List ℕ) (k : ℕ) (list : List ℕ) (right : NetRight ns ws os) (bytes : Bytes ns) (accepted : listRefusal (stageOf ns ws os k) list ≡ none) where
-  points-few : (i : ℕ) → sum (stageOf ns ws os k .len i) (λ t. χ (setOf list i t) 1) ≤ lengthBound
+module _ (v : ℕ) (ns ws os : List ℕ) (k : ℕ) (list : List ℕ) (right : NetRight v ns ws os) (bytes : Bytes ns) (accepted : listRefusal (stageOf v ns ws os k) list ≡ none) where
+  points-few : (i : ℕ) → sum (stageOf v ns ws os k .len i) (λ t. χ (setOf list i t) 1) ≤ lengthBound
   unfolding stageOf
   points-few i =
-      let s = stageOf ns ws os k in
+      let s = stageOf v ns ws os k in
       by (s .present i)
       (λ y.
-      let checked = checked-of right i (present-positive ns ws os k i y) (present-inside ns ws os k i y) in
+      let checked = checked-of right i (present-positive v ns ws os k i y) (present-inside v ns ws os k i y) in
       let a = length-small ns ws i bytes checked in
       let b = sum-bound (s .len i) 1 {f = λ t. χ (setOf list i t) 1} (λ t p. χ-≤ (setOf list i t) 1) in
       omega arith)
@@ -38,7 +38,7 @@ module _ (ns ws os : List ℕ) (k : ℕ) (list : List ℕ) (right : NetRight ns 
   pub entries-few : entryCount list ≤ nodeCount ns * lengthBound
   unfolding size stageOf
   entries-few =
-      let s = stageOf ns ws os k in
-      let a = list-set-size s list accepted (formed ns ws os right k) in
+      let s = stageOf v ns ws os k in
+      let a = list-set-size s list accepted (formed v ns ws os right k) in
       let b = sum-bound (nodeCount ns) lengthBound {f = λ i. sum (s .len i) (λ t. χ (setOf list i t) 1)} (λ i p. points-few i) in
       omega arith

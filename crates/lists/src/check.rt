@@ -58,6 +58,7 @@ fn lies_inside(stage: u8, nodes: &[u8], wires: &[u8], i: usize, t: u32) -> bool
 
 // Position t of wire i: 13, 14.
 pub fn point_refusal(
+    version: u16,
     stage: u8,
     nodes: &[u8],
     wires: &[u8],
@@ -66,13 +67,13 @@ pub fn point_refusal(
     t: u32,
     place: u64,
 ) -> Refusal
-    requires { ⌜ netRefusal (now nodes) (now wires) (now obstacles) ≡ none ⌝ }
-    ensures { λ r. ⌜ r ≡ pointRefusal (stageOf (now (nodes .entry)) (now (wires .entry)) (now (obstacles .entry)) stage) i t place ⌝ }
+    requires { ⌜ netRefusal version (now nodes) (now wires) (now obstacles) ≡ none ⌝ }
+    ensures { λ r. ⌜ r ≡ pointRefusal (stageOf version (now (nodes .entry)) (now (wires .entry)) (now (obstacles .entry)) stage) i t place ⌝ }
 {
     if !lies_inside(stage, nodes, wires, i, t) {
         return refused(13, place);
     }
-    if is_barred(nodes, wires, obstacles, i, t) {
+    if is_barred(version, nodes, wires, obstacles, i, t) {
         return refused(14, place);
     }
     none()
@@ -80,6 +81,7 @@ pub fn point_refusal(
 
 // Entry e: 12, then 13 and 14 on its point.
 fn entry_refusal(
+    version: u16,
     stage: u8,
     nodes: &[u8],
     wires: &[u8],
@@ -87,22 +89,29 @@ fn entry_refusal(
     list: &[u8],
     e: usize,
 ) -> Refusal
-    requires { ⌜ netRefusal (now nodes) (now wires) (now obstacles) ≡ none ⌝ }
+    requires { ⌜ netRefusal version (now nodes) (now wires) (now obstacles) ≡ none ⌝ }
     requires { ⌜ e < entryCount (now list) ⌝ }
-    ensures { λ r. ⌜ r ≡ entryRefusal (stageOf (now (nodes .entry)) (now (wires .entry)) (now (obstacles .entry)) stage) (now (list .entry)) e ⌝ }
+    ensures { λ r. ⌜ r ≡ entryRefusal (stageOf version (now (nodes .entry)) (now (wires .entry)) (now (obstacles .entry)) stage) (now (list .entry)) e ⌝ }
 {
     if !is_after(list, e) {
         return refused(12, e as u64);
     }
     let i = entry_wire(list, e);
     let t = entry_position(list, e);
-    point_refusal(stage, nodes, wires, obstacles, i, t, e as u64)
+    point_refusal(version, stage, nodes, wires, obstacles, i, t, e as u64)
 }
 
 // 12 on the length of a list, then each entry in order.
-pub fn list_refusal(stage: u8, nodes: &[u8], wires: &[u8], obstacles: &[u8], list: &[u8]) -> Refusal
-    requires { ⌜ netRefusal (now nodes) (now wires) (now obstacles) ≡ none ⌝ }
-    ensures { λ r. ⌜ r ≡ listRefusal (stageOf (now (nodes .entry)) (now (wires .entry)) (now (obstacles .entry)) stage) (now (list .entry)) ⌝ }
+pub fn list_refusal(
+    version: u16,
+    stage: u8,
+    nodes: &[u8],
+    wires: &[u8],
+    obstacles: &[u8],
+    list: &[u8],
+) -> Refusal
+    requires { ⌜ netRefusal version (now nodes) (now wires) (now obstacles) ≡ none ⌝ }
+    ensures { λ r. ⌜ r ≡ listRefusal (stageOf version (now (nodes .entry)) (now (wires .entry)) (now (obstacles .entry)) stage) (now (list .entry)) ⌝ }
 {
     if list.len() % ENTRY_BYTES != 0 {
         return refused(12, 0);
@@ -110,7 +119,7 @@ pub fn list_refusal(stage: u8, nodes: &[u8], wires: &[u8], obstacles: &[u8], lis
     let count = entry_count(list);
     let mut e = 0;
     while e < count {
-        let r = entry_refusal(stage, nodes, wires, obstacles, list, e);
+        let r = entry_refusal(version, stage, nodes, wires, obstacles, list, e);
         if r.number != 0 {
             return r;
         }

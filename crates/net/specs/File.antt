@@ -1,4 +1,4 @@
--- Document 01, "Files": the net file.
+-- Document 01, "Files": the net file, of a version.
 -- Assumes nothing.
 use Prim.Native.Nat.{ℕ, _+_, _*_}
 use mathlib.Core.Bool.{Bool, _&&_}
@@ -9,8 +9,8 @@ use Rattle.laws.specs.Bytes.{le16, le32, bytes16, bytes32}
 use Rattle.net.specs.Layout.{headBytes}
 
 -- version and pair count
-abbrev pub version : List ℕ → ℕ
-version file = le16 file 0
+abbrev pub versionOf : List ℕ → ℕ
+versionOf file = le16 file 0
 
 abbrev pub pairCount : List ℕ → ℕ
 pairCount file = le16 file 2
@@ -33,14 +33,14 @@ pairsRight file =
 unfoldable pub stretch : List ℕ → ℕ → List ℕ
 stretch file k = take (extent file k) (drop (offset file k) file)
 
--- the head of the file of three sections: version 1, three pairs
-unfoldable pub headOf : ℕ → ℕ → ℕ → List ℕ
-headOf n w o =
-    bytes16 1 ++ bytes16 3 ++ bytes32 headBytes ++ bytes32 n ++ bytes32 (headBytes + n) ++ bytes32 w ++ bytes32 (headBytes + n + w) ++ bytes32 o
+-- the head of the file of three sections: version, three pairs
+unfoldable pub headOf : ℕ → ℕ → ℕ → ℕ → List ℕ
+headOf version n w o =
+    bytes16 version ++ bytes16 3 ++ bytes32 headBytes ++ bytes32 n ++ bytes32 (headBytes + n) ++ bytes32 w ++ bytes32 (headBytes + n + w) ++ bytes32 o
 
--- the file of three sections: its head, then nodes, wires, obstacles
-unfoldable pub fileOf : List ℕ → List ℕ → List ℕ → List ℕ
-fileOf nodes wires obstacles = headOf (length nodes) (length wires) (length obstacles) ++ nodes ++ wires ++ obstacles
+-- the file of a version and three sections: its head, then nodes, wires, obstacles
+unfoldable pub fileOf : ℕ → List ℕ → List ℕ → List ℕ → List ℕ
+fileOf version nodes wires obstacles = headOf version (length nodes) (length wires) (length obstacles) ++ nodes ++ wires ++ obstacles
 
 -- the bytes it takes
 abbrev pub fileBytes : List ℕ → List ℕ → List ℕ → ℕ

@@ -1,20 +1,26 @@
 -- Widths and limits of document 01's files, each stated once.
 -- Assumes nothing.
 use Prim.Native.Nat.{ℕ}
+use mathlib.Core.Bool.{cond}
+use lib.Dec.{eqb}
+
+-- the newest version of net files
+abbrev pub newest : ℕ
+newest = 2
 
 -- bytes of the head: version, pair count and three pairs
 abbrev pub headBytes : ℕ
 headBytes = 28
 
--- bytes of a node, a wire, an obstacle, a jumper list entry and a piece record
+-- bytes of a node, a wire, an obstacle (from version 2 on it ends with a layer), a jumper list entry and a piece record
 abbrev pub nodeBytes : ℕ
 nodeBytes = 5
 
 abbrev pub wireBytes : ℕ
 wireBytes = 3
 
-abbrev pub obstacleBytes : ℕ
-obstacleBytes = 8
+abbrev pub obstacleBytes : ℕ → ℕ
+obstacleBytes version = cond (eqb version 1) 8 9
 
 abbrev pub entryBytes : ℕ
 entryBytes = 3

@@ -6,6 +6,7 @@ pub mod Formed
 pub mod Refusal
 pub mod Call
 pub mod File
+pub mod Versions
 pub mod First
 pub mod Reading
 pub mod Writing

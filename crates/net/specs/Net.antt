@@ -1,4 +1,4 @@
--- Document 01, "The net": nodes, wires, obstacles, points. A net is its three sections, as bytes.
+-- Document 01, "The net": nodes, wires, obstacles, points; document 02, CR 2: an obstacle's layer. A net is its version and its three sections, as bytes.
 -- Assumes nothing.
 use Prim.Native.Nat.{ℕ, _+_, _-_, _*_, _/_, _%_}
 use mathlib.Core.Bool.{Bool, _&&_, cond}
@@ -7,7 +7,7 @@ use lib.ListN.{length, getD}
 use lib.Dec.{leb, ltb, eqb}
 use Rattle.laws.specs.Sum.{any}
 use Rattle.laws.specs.Bytes.{le16}
-use Rattle.net.specs.Layout.{nodeBytes, wireBytes, obstacleBytes}
+use Rattle.net.specs.Layout.{nodeBytes, wireBytes, obstacleBytes, mostLayers}
 
 -- the number of nodes; they are numbered from 0
 abbrev pub nodeCount : List ℕ → ℕ
@@ -61,28 +61,35 @@ unfoldable pub pointY : List ℕ → List ℕ → ℕ → ℕ → ℕ
 pointY nodes wires i t = toward (nodeY nodes i) (nodeY nodes (wireParent wires i)) t
 
 -- the number of obstacles; they are numbered from 0
-abbrev pub obstacleCount : List ℕ → ℕ
-obstacleCount obstacles = length obstacles / obstacleBytes
+abbrev pub obstacleCount : ℕ → List ℕ → ℕ
+obstacleCount version obstacles = length obstacles / obstacleBytes version
 
 -- an obstacle: x1, y1, x2, y2
-abbrev pub obstacleX1 : List ℕ → ℕ → ℕ
-obstacleX1 obstacles k = le16 obstacles (obstacleBytes * k)
+abbrev pub obstacleX1 : ℕ → List ℕ → ℕ → ℕ
+obstacleX1 version obstacles k = le16 obstacles (obstacleBytes version * k)
 
-abbrev pub obstacleY1 : List ℕ → ℕ → ℕ
-obstacleY1 obstacles k = le16 obstacles (obstacleBytes * k + 2)
+abbrev pub obstacleY1 : ℕ → List ℕ → ℕ → ℕ
+obstacleY1 version obstacles k = le16 obstacles (obstacleBytes version * k + 2)
 
-abbrev pub obstacleX2 : List ℕ → ℕ → ℕ
-obstacleX2 obstacles k = le16 obstacles (obstacleBytes * k + 4)
+abbrev pub obstacleX2 : ℕ → List ℕ → ℕ → ℕ
+obstacleX2 version obstacles k = le16 obstacles (obstacleBytes version * k + 4)
 
-abbrev pub obstacleY2 : List ℕ → ℕ → ℕ
-obstacleY2 obstacles k = le16 obstacles (obstacleBytes * k + 6)
+abbrev pub obstacleY2 : ℕ → List ℕ → ℕ → ℕ
+obstacleY2 version obstacles k = le16 obstacles (obstacleBytes version * k + 6)
+
+-- then its layer; version 1 obstacles read as layer 16
+abbrev pub obstacleLayer : ℕ → List ℕ → ℕ → ℕ
+obstacleLayer version obstacles k = cond (eqb version 1) mostLayers (getD obstacles (obstacleBytes version * k + 8) 0)
 
 -- obstacle k holds the point x, y, its border included
-unfoldable pub holds : List ℕ → ℕ → ℕ → ℕ → Bool
-holds obstacles k x y =
-    leb (obstacleX1 obstacles k) x && leb x (obstacleX2 obstacles k) && (leb (obstacleY1 obstacles k) y && leb y (obstacleY2 obstacles k))
+unfoldable pub holds : ℕ → List ℕ → ℕ → ℕ → ℕ → Bool
+holds version obstacles k x y =
+    leb (obstacleX1 version obstacles k) x && leb x (obstacleX2 version obstacles k)
+    && (leb (obstacleY1 version obstacles k) y && leb y (obstacleY2 version obstacles k))
 
--- the point at position t of wire i is barred: any obstacle holds it
-unfoldable pub barred : List ℕ → List ℕ → List ℕ → ℕ → ℕ → Bool
-barred nodes wires obstacles i t =
-    any (obstacleCount obstacles) (λ k. holds obstacles k (pointX nodes wires i t) (pointY nodes wires i t))
+-- the point at position t of wire i is barred: an obstacle holds it, and the wire's layer is at most the obstacle's
+unfoldable pub barred : ℕ → List ℕ → List ℕ → List ℕ → ℕ → ℕ → Bool
+barred version nodes wires obstacles i t =
+    any (obstacleCount version obstacles)
+    (λ k.
+    holds version obstacles k (pointX nodes wires i t) (pointY nodes wires i t) && leb (wireLayer wires i) (obstacleLayer version obstacles k))

@@ -10,9 +10,9 @@ use native.Mathlib.Omega.{arith}
 use borrow.Author.Tests.{lt-ltb, le-ltb, eq-eqb, ne-eqb}
 use Rattle.net.specs.declared.Refusal.{Refusal}
 use Rattle.net.specs.Layout.{headBytes, nodeBytes, wireBytes, obstacleBytes, mostNodes, mostObstacles, mostLayers, mostFlags}
-use Rattle.net.specs.Net.{nodeCount, nodeX, nodeY, nodeFlags, wireParent, wireLayer, wireFactor, obstacleCount, obstacleX1, obstacleY1, obstacleX2, obstacleY2}
-use Rattle.net.specs.File.{version, pairCount, offset, extent, pairsRight, stretch}
-use Rattle.net.specs.Refusal.{none, refusal, answer, readAnswer, nodesOf, met, refusedIf, orElse, firstOf, headRefusal, pairsRefusal, sectionOf, sectionsRefusal, nodeRefusal, wireRefusal, obstacleRefusal, netRefusal, readRefusal}
+use Rattle.net.specs.Net.{nodeCount, nodeX, nodeY, nodeFlags, wireParent, wireLayer, wireFactor, obstacleCount, obstacleX1, obstacleY1, obstacleX2, obstacleY2, obstacleLayer}
+use Rattle.net.specs.File.{versionOf, pairCount, offset, extent, pairsRight, stretch}
+use Rattle.net.specs.Refusal.{none, refusal, answer, readAnswer, nodesOf, met, refusedIf, orElse, firstOf, isVersion, headRefusal, pairsRefusal, sectionOf, sectionsRefusal, nodeRefusal, wireRefusal, obstacleRefusal, netRefusal, readRefusal}
 use Rattle.net.specs.First.{none-if, none-or, first-of, rest-of, or-assoc, first-more-1, first-here-1}
 
 -- head of file
@@ -21,17 +21,17 @@ module _ (f : List ℕ) where
   unfolding headRefusal
   head-short h = rw (lt-ltb _ _ h)
 
-  pub head-version : headBytes ≤ length f → (version f ≡ 1 → ⊥) → refusal 2 0 ≡ headRefusal f
+  pub head-version : headBytes ≤ length f → isVersion (versionOf f) ≡ false → refusal 2 0 ≡ headRefusal f
   unfolding headRefusal
-  head-version h v = rw (le-ltb _ _ h, ne-eqb _ _ v)
+  head-version h v = rw (le-ltb _ _ h, v)
 
-  pub head-pairs : headBytes ≤ length f → version f ≡ 1 → (pairCount f ≡ 3 → ⊥) → refusal 2 0 ≡ headRefusal f
+  pub head-pairs : headBytes ≤ length f → isVersion (versionOf f) ≡ true → (pairCount f ≡ 3 → ⊥) → refusal 2 0 ≡ headRefusal f
   unfolding headRefusal
-  head-pairs h v p = rw (le-ltb _ _ h, eq-eqb _ _ v, ne-eqb _ _ p)
+  head-pairs h v p = rw (le-ltb _ _ h, v, ne-eqb _ _ p)
 
-  pub head-right : headBytes ≤ length f → version f ≡ 1 → pairCount f ≡ 3 → none ≡ headRefusal f
+  pub head-right : headBytes ≤ length f → isVersion (versionOf f) ≡ true → pairCount f ≡ 3 → none ≡ headRefusal f
   unfolding headRefusal
-  head-right h v p = rw (le-ltb _ _ h, eq-eqb _ _ v, eq-eqb _ _ p)
+  head-right h v p = rw (le-ltb _ _ h, v, eq-eqb _ _ p)
 
 -- pairs: each test after those before it
 module _ (f : List ℕ) where
@@ -59,37 +59,37 @@ module _ (f : List ℕ) where
         pairs-right d = rw (eq-eqb _ _ a, eq-eqb _ _ b, eq-eqb _ _ c, eq-eqb _ _ d)
 
 -- sections: each test after those before it
-module _ (ns ws os : List ℕ) where
-  pub sections-fives : (length ns % nodeBytes ≡ 0 → ⊥) → refusal 4 0 ≡ sectionsRefusal ns ws os
+module _ (v : ℕ) (ns ws os : List ℕ) where
+  pub sections-fives : (length ns % nodeBytes ≡ 0 → ⊥) → refusal 4 0 ≡ sectionsRefusal v ns ws os
   unfolding sectionsRefusal
   sections-fives n = rw (ne-eqb _ _ n)
 
   module _ (a : length ns % nodeBytes ≡ 0) where
-    pub sections-empty : nodeCount ns ≡ 0 → refusal 4 0 ≡ sectionsRefusal ns ws os
+    pub sections-empty : nodeCount ns ≡ 0 → refusal 4 0 ≡ sectionsRefusal v ns ws os
     unfolding sectionsRefusal
     sections-empty n = rw (eq-eqb _ _ a, eq-eqb _ _ n)
 
     module _ (b : nodeCount ns ≡ 0 → ⊥) where
-      pub sections-many : mostNodes < nodeCount ns → refusal 4 0 ≡ sectionsRefusal ns ws os
+      pub sections-many : mostNodes < nodeCount ns → refusal 4 0 ≡ sectionsRefusal v ns ws os
       unfolding sectionsRefusal
       sections-many n = rw (eq-eqb _ _ a, ne-eqb _ _ b, lt-ltb _ _ n)
 
       module _ (c : nodeCount ns ≤ mostNodes) where
-        pub sections-threes : (length ws ≡ wireBytes * (nodeCount ns - 1) → ⊥) → refusal 5 0 ≡ sectionsRefusal ns ws os
+        pub sections-threes : (length ws ≡ wireBytes * (nodeCount ns - 1) → ⊥) → refusal 5 0 ≡ sectionsRefusal v ns ws os
         unfolding sectionsRefusal
         sections-threes n = rw (eq-eqb _ _ a, ne-eqb _ _ b, le-ltb _ _ c, ne-eqb _ _ n)
 
         module _ (d : length ws ≡ wireBytes * (nodeCount ns - 1)) where
-          pub sections-eights : (length os % obstacleBytes ≡ 0 → ⊥) → refusal 6 0 ≡ sectionsRefusal ns ws os
+          pub sections-uneven : (length os % obstacleBytes v ≡ 0 → ⊥) → refusal 6 0 ≡ sectionsRefusal v ns ws os
           unfolding sectionsRefusal
-          sections-eights n = rw (eq-eqb _ _ a, ne-eqb _ _ b, le-ltb _ _ c, eq-eqb _ _ d, ne-eqb _ _ n)
+          sections-uneven n = rw (eq-eqb _ _ a, ne-eqb _ _ b, le-ltb _ _ c, eq-eqb _ _ d, ne-eqb _ _ n)
 
-          module _ (e : length os % obstacleBytes ≡ 0) where
-            pub sections-more : mostObstacles < obstacleCount os → refusal 6 0 ≡ sectionsRefusal ns ws os
+          module _ (e : length os % obstacleBytes v ≡ 0) where
+            pub sections-more : mostObstacles < obstacleCount v os → refusal 6 0 ≡ sectionsRefusal v ns ws os
             unfolding sectionsRefusal
             sections-more n = rw (eq-eqb _ _ a, ne-eqb _ _ b, le-ltb _ _ c, eq-eqb _ _ d, eq-eqb _ _ e, lt-ltb _ _ n)
 
-            pub sections-right : obstacleCount os ≤ mostObstacles → none ≡ sectionsRefusal ns ws os
+            pub sections-right : obstacleCount v os ≤ mostObstacles → none ≡ sectionsRefusal v ns ws os
             unfolding sectionsRefusal
             sections-right n = rw (eq-eqb _ _ a, ne-eqb _ _ b, le-ltb _ _ c, eq-eqb _ _ d, eq-eqb _ _ e, le-ltb _ _ n)
 
@@ -156,20 +156,37 @@ module _ (ns ws : List ℕ) (i : ℕ) (h : 0 < i) (e : none ≡ firstOf (i - 1) 
       → r ≡ firstOf (n - 1) (λ j. wireRefusal ns ws (j + 1))
   wires-here n r l q m = first-here-1 (λ j. wireRefusal ns ws j) n i h l e q m
 
--- an obstacle
-module _ (os : List ℕ) (k : ℕ) where
-  pub obstacle-x : obstacleX2 os k < obstacleX1 os k → refusal 11 k ≡ obstacleRefusal os k
+-- an obstacle: each test after those before it
+module _ (v : ℕ) (os : List ℕ) (k : ℕ) where
+  pub obstacle-x : obstacleX2 v os k < obstacleX1 v os k → refusal 11 k ≡ obstacleRefusal v os k
   unfolding obstacleRefusal
   obstacle-x h = rw (lt-ltb _ _ h)
 
-  module _ (a : obstacleX1 os k ≤ obstacleX2 os k) where
-    pub obstacle-y : obstacleY2 os k < obstacleY1 os k → refusal 11 k ≡ obstacleRefusal os k
+  module _ (a : obstacleX1 v os k ≤ obstacleX2 v os k) where
+    pub obstacle-y : obstacleY2 v os k < obstacleY1 v os k → refusal 11 k ≡ obstacleRefusal v os k
     unfolding obstacleRefusal
     obstacle-y h = rw (le-ltb _ _ a, lt-ltb _ _ h)
 
-    pub obstacle-right : obstacleY1 os k ≤ obstacleY2 os k → none ≡ obstacleRefusal os k
-    unfolding obstacleRefusal
-    obstacle-right h = rw (le-ltb _ _ a, le-ltb _ _ h)
+    module _ (b : obstacleY1 v os k ≤ obstacleY2 v os k) where
+      pub obstacle-no-layer : obstacleLayer v os k ≡ 0 → refusal 20 k ≡ obstacleRefusal v os k
+      unfolding obstacleRefusal
+      obstacle-no-layer h = rw (le-ltb _ _ a, le-ltb _ _ b, eq-eqb _ _ h)
+
+      module _ (c : obstacleLayer v os k ≡ 0 → ⊥) where
+        pub obstacle-layer-high : mostLayers < obstacleLayer v os k → refusal 20 k ≡ obstacleRefusal v os k
+        unfolding obstacleRefusal
+        obstacle-layer-high h = rw (le-ltb _ _ a, le-ltb _ _ b, ne-eqb _ _ c, lt-ltb _ _ h)
+
+        pub obstacle-right : obstacleLayer v os k ≤ mostLayers → none ≡ obstacleRefusal v os k
+        unfolding obstacleRefusal
+        obstacle-right h = rw (le-ltb _ _ a, le-ltb _ _ b, ne-eqb _ _ c, le-ltb _ _ h)
+
+  pub obstacle-none : met (obstacleRefusal v os k) ≡ false → none ≡ obstacleRefusal v os k
+  unfolding obstacleRefusal
+  obstacle-none e =
+      let crossed = ltb (obstacleX2 v os k) (obstacleX1 v os k) || ltb (obstacleY2 v os k) (obstacleY1 v os k) in
+      let outside = eqb (obstacleLayer v os k) 0 || ltb mostLayers (obstacleLayer v os k) in
+      none-or (refusedIf crossed 11 k) (refusedIf outside 20 k) (none-if outside 20 k refl) e
 
 -- a section, from its pair
 pub stretch-part : (f : List ℕ) (k a e : ℕ) → a ≡ offset f k → e ≡ offset f k + extent f k → take (e - a) (drop a f) ≡ stretch f k
@@ -191,7 +208,7 @@ module _ (f : List ℕ) where
   read-head r q m = first-of _ _ q m ∙ or-assoc (headRefusal f) (pairsRefusal f) _
 
   pub read-net : (r s : Refusal) → s ≡ orElse (headRefusal f) (pairsRefusal f) → met s ≡ false
-      → r ≡ netRefusal (stretch f 0) (stretch f 1) (stretch f 2) → r ≡ readRefusal f
+      → r ≡ netRefusal (versionOf f) (stretch f 0) (stretch f 1) (stretch f 2) → r ≡ readRefusal f
   unfolding readRefusal
   read-net r s p m q =
       let e : met (orElse (headRefusal f) (pairsRefusal f)) ≡ false = rw (← p) m in

@@ -1,4 +1,4 @@
--- Document 01, "Where each refusal is met": numbers 1 to 11 and 16, which comes first, and what reading and writing answer.
+-- Document 01, "Where each refusal is met": numbers 1 to 11 and 16, with 20 of document 02, which comes first, and what reading and writing answer.
 -- Assumes nothing.
 use Prim.Native.Nat.{ℕ, zero, suc, _+_, _-_, _*_, _%_}
 use mathlib.Core.Bool.{Bool, true, false, not, _&&_, _||_, cond}
@@ -7,9 +7,9 @@ use lib.ListN.{length, drop}
 use lib.Dec.{ltb, eqb}
 use Rattle.net.specs.declared.Refusal.{Refusal}
 use Rattle.net.specs.declared.Answer.{Answer}
-use Rattle.net.specs.Layout.{headBytes, nodeBytes, wireBytes, obstacleBytes, mostNodes, mostObstacles, mostLayers, mostFlags}
-use Rattle.net.specs.Net.{nodeCount, nodeX, nodeY, nodeFlags, wireParent, wireLayer, wireFactor, obstacleCount, obstacleX1, obstacleY1, obstacleX2, obstacleY2}
-use Rattle.net.specs.File.{version, pairCount, pairsRight, stretch, fileOf, fileBytes}
+use Rattle.net.specs.Layout.{newest, headBytes, nodeBytes, wireBytes, obstacleBytes, mostNodes, mostObstacles, mostLayers, mostFlags}
+use Rattle.net.specs.Net.{nodeCount, nodeX, nodeY, nodeFlags, wireParent, wireLayer, wireFactor, obstacleCount, obstacleX1, obstacleY1, obstacleX2, obstacleY2, obstacleLayer}
+use Rattle.net.specs.File.{versionOf, pairCount, pairsRight, stretch, fileOf, fileBytes}
 
 -- no refusal, and the refusal of a number with its place
 abbrev pub none : Refusal
@@ -40,9 +40,13 @@ firstOf (suc n) f = orElse (firstOf n f) (f n)
 unfoldable pub stageRefusal : ℕ → Refusal
 stageRefusal stage = refusedIf (eqb stage 0 || ltb mostLayers stage) 1 0
 
+-- a version of net files: 1 or 2
+unfoldable pub isVersion : ℕ → Bool
+isVersion version = eqb version 1 || eqb version newest
+
 -- head of file: 2 under 28 bytes, or version or pair count wrong
 unfoldable pub headRefusal : List ℕ → Refusal
-headRefusal file = refusedIf (ltb (length file) headBytes || (not (eqb (version file) 1) || not (eqb (pairCount file) 3))) 2 0
+headRefusal file = refusedIf (ltb (length file) headBytes || (not (isVersion (versionOf file)) || not (eqb (pairCount file) 3))) 2 0
 
 -- pairs: 3 offsets and ends not as they should be
 unfoldable pub pairsRefusal : List ℕ → Refusal
@@ -61,12 +65,12 @@ wiresOf file = sectionOf file 1
 abbrev pub obstaclesOf : List ℕ → List ℕ
 obstaclesOf file = sectionOf file 2
 
--- sections: 4 node length not in fives, or nodes not 1..256; 5 wire length not 3 × (nodes − 1); 6 obstacle length not in eights, or over 256
-unfoldable pub sectionsRefusal : List ℕ → List ℕ → List ℕ → Refusal
-sectionsRefusal nodes wires obstacles =
+-- sections: 4 node length not in fives, or nodes not 1..256; 5 wire length not 3 × (nodes − 1); 6 obstacle length not in eights (version 1) or nines, or over 256
+unfoldable pub sectionsRefusal : ℕ → List ℕ → List ℕ → List ℕ → Refusal
+sectionsRefusal version nodes wires obstacles =
     orElse (refusedIf (not (eqb (length nodes % nodeBytes) 0) || (eqb (nodeCount nodes) 0 || ltb mostNodes (nodeCount nodes))) 4 0)
     (orElse (refusedIf (not (eqb (length wires) (wireBytes * (nodeCount nodes - 1)))) 5 0)
-    (refusedIf (not (eqb (length obstacles % obstacleBytes) 0) || ltb mostObstacles (obstacleCount obstacles)) 6 0))
+    (refusedIf (not (eqb (length obstacles % obstacleBytes version) 0) || ltb mostObstacles (obstacleCount version obstacles)) 6 0))
 
 -- node i: 7 flags over 3
 unfoldable pub nodeRefusal : List ℕ → ℕ → Refusal
@@ -82,23 +86,26 @@ wireRefusal nodes wires i =
     10
     i))
 
--- obstacle k: 11 corners reversed
-unfoldable pub obstacleRefusal : List ℕ → ℕ → Refusal
-obstacleRefusal obstacles k =
-    refusedIf (ltb (obstacleX2 obstacles k) (obstacleX1 obstacles k) || ltb (obstacleY2 obstacles k) (obstacleY1 obstacles k)) 11 k
+-- obstacle k: 11 corners reversed; 20 layer out of range
+unfoldable pub obstacleRefusal : ℕ → List ℕ → ℕ → Refusal
+obstacleRefusal version obstacles k =
+    orElse
+    (refusedIf (ltb (obstacleX2 version obstacles k) (obstacleX1 version obstacles k) || ltb (obstacleY2 version obstacles k) (obstacleY1 version obstacles k)) 11 k)
+    (refusedIf (eqb (obstacleLayer version obstacles k) 0 || ltb mostLayers (obstacleLayer version obstacles k)) 20 k)
 
--- 4 to 11 on three sections: places from top to bottom, records in order; wires are numbered from 1
-unfoldable pub netRefusal : List ℕ → List ℕ → List ℕ → Refusal
-netRefusal nodes wires obstacles =
-    orElse (sectionsRefusal nodes wires obstacles)
+-- 4 to 11 and 20 on three sections: places from top to bottom, records in order; wires are numbered from 1
+unfoldable pub netRefusal : ℕ → List ℕ → List ℕ → List ℕ → Refusal
+netRefusal version nodes wires obstacles =
+    orElse (sectionsRefusal version nodes wires obstacles)
     (orElse (firstOf (nodeCount nodes) (λ i. nodeRefusal nodes i))
     (orElse (firstOf (nodeCount nodes - 1) (λ i. wireRefusal nodes wires (i + 1)))
-    (firstOf (obstacleCount obstacles) (λ k. obstacleRefusal obstacles k))))
+    (firstOf (obstacleCount version obstacles) (λ k. obstacleRefusal version obstacles k))))
 
--- 2 to 11 on a file
+-- 2 to 11 and 20 on a file
 unfoldable pub readRefusal : List ℕ → Refusal
 readRefusal file =
-    orElse (headRefusal file) (orElse (pairsRefusal file) (netRefusal (nodesOf file) (wiresOf file) (obstaclesOf file)))
+    orElse (headRefusal file)
+    (orElse (pairsRefusal file) (netRefusal (versionOf file) (nodesOf file) (wiresOf file) (obstaclesOf file)))
 
 -- what a call answers: a refusal with its place, or done with a count
 unfoldable pub answer : Refusal → ℕ → Answer
@@ -112,17 +119,19 @@ readAnswer file = answer (readRefusal file) (nodeCount (nodesOf file))
 abbrev pub lentRefusal : ℕ → ℕ → Refusal
 lentRefusal needed lent = refusedIf (ltb lent needed) 16 needed
 
--- write: 4 to 11 on the sections, then 16
-unfoldable pub writeRefusal : List ℕ → List ℕ → List ℕ → ℕ → Refusal
-writeRefusal nodes wires obstacles lent =
-    orElse (netRefusal nodes wires obstacles) (lentRefusal (fileBytes nodes wires obstacles) lent)
+-- write is told the version: 2 on it, 4 to 11 and 20 on the sections, then 16
+unfoldable pub writeRefusal : ℕ → List ℕ → List ℕ → List ℕ → ℕ → Refusal
+writeRefusal version nodes wires obstacles lent =
+    orElse (refusedIf (not (isVersion version)) 2 0)
+    (orElse (netRefusal version nodes wires obstacles) (lentRefusal (fileBytes nodes wires obstacles) lent))
 
 -- the count is that of the bytes written
-unfoldable pub writeAnswer : List ℕ → List ℕ → List ℕ → ℕ → Answer
-writeAnswer nodes wires obstacles lent = answer (writeRefusal nodes wires obstacles lent) (fileBytes nodes wires obstacles)
+unfoldable pub writeAnswer : ℕ → List ℕ → List ℕ → List ℕ → ℕ → Answer
+writeAnswer version nodes wires obstacles lent =
+    answer (writeRefusal version nodes wires obstacles lent) (fileBytes nodes wires obstacles)
 
 -- what the lent buffer then holds: the file and behind it what was there, or after a refusal what was there
-unfoldable pub writeBuffer : List ℕ → List ℕ → List ℕ → List ℕ → List ℕ
-writeBuffer nodes wires obstacles out =
-    cond (met (writeRefusal nodes wires obstacles (length out))) out
-    (fileOf nodes wires obstacles ++ drop (fileBytes nodes wires obstacles) out)
+unfoldable pub writeBuffer : ℕ → List ℕ → List ℕ → List ℕ → List ℕ → List ℕ
+writeBuffer version nodes wires obstacles out =
+    cond (met (writeRefusal version nodes wires obstacles (length out))) out
+    (fileOf version nodes wires obstacles ++ drop (fileBytes nodes wires obstacles) out)

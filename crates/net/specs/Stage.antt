@@ -6,7 +6,7 @@ use mathlib.Core.List.{List}
 use lib.Dec.{leb, ltb}
 use Rattle.net.specs.Net.{nodeCount, nodeFlags, isGate, isSource, wireParent, wireLayer, wireFactor, wireLength, barred}
 
--- nodes 0 to nodes − 1; wire i joins node i to its parent; present: the stage has wire i; barred i t: an obstacle holds position t of wire i
+-- nodes 0 to nodes − 1; wire i joins node i to its parent; present: the stage has wire i; barred i t: an obstacle bars position t of wire i
 pub record Stage : Type 0 where
   pub nodes : ℕ
   pub parent : ℕ → ℕ
@@ -19,8 +19,8 @@ pub record Stage : Type 0 where
   pub barred : ℕ → ℕ → Bool
 
 -- stage k of a net: the wires of layer at most k are present
-unfoldable pub stageOf : List ℕ → List ℕ → List ℕ → ℕ → Stage
-stageOf ns ws os k =
+unfoldable pub stageOf : ℕ → List ℕ → List ℕ → List ℕ → ℕ → Stage
+stageOf version ns ws os k =
     record {
       nodes = nodeCount ns;
       parent = λ i. wireParent ws i;
@@ -30,5 +30,5 @@ stageOf ns ws os k =
       present = λ i. ltb 0 i && (ltb i (nodeCount ns) && leb (wireLayer ws i) k);
       gate = λ i. isGate (nodeFlags ns i);
       source = λ i. isSource (nodeFlags ns i);
-      barred = λ i t. barred ns ws os i t;
+      barred = λ i t. barred version ns ws os i t;
     }

@@ -6,7 +6,7 @@ use crate::read::read_refusal;
 ghost use mathlib.Core.Path.{_≡_};
 ghost use Rattle.net.specs.Call.{callRefusal};
 
-// 1 on the stage, 2 to 11 on the file.
+// 1 on the stage, 2 to 11 and 20 on the file.
 pub fn call_refusal(stage: u32, file: &[u8]) -> Refusal
     ensures { λ r. ⌜ r ≡ callRefusal stage (now (file .entry)) ⌝ }
 {

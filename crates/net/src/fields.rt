@@ -1,4 +1,7 @@
 // Fields of nodes, wires and obstacles, read in place from their sections.
+use crate::layout::FIRST;
+use crate::layout::FIRST_OBSTACLE_BYTES;
+use crate::layout::MOST_LAYERS;
 use crate::layout::NODE_BYTES;
 use crate::layout::OBSTACLE_BYTES;
 use crate::layout::WIRE_BYTES;
@@ -8,8 +11,8 @@ ghost use Prim.Native.Nat.{_+_, _*_, _<_, _≤_};
 ghost use lib.ListN.{length};
 ghost use lib.Dec.{ltb, leb};
 ghost use Rattle.laws.specs.Bytes.{le16, le32};
-ghost use Rattle.net.specs.Layout.{wireBytes};
-ghost use Rattle.net.specs.Net.{nodeCount, nodeX, nodeY, nodeFlags, isGate, isSource, wireParent, wireLayer, wireFactor, obstacleCount, obstacleX1, obstacleY1, obstacleX2, obstacleY2};
+ghost use Rattle.net.specs.Layout.{wireBytes, obstacleBytes};
+ghost use Rattle.net.specs.Net.{nodeCount, nodeX, nodeY, nodeFlags, isGate, isSource, wireParent, wireLayer, wireFactor, obstacleCount, obstacleX1, obstacleY1, obstacleX2, obstacleY2, obstacleLayer};
 
 // The number of 16 bits of two bytes, the low one first.
 fn join16(b0: u8, b1: u8) -> u16
@@ -121,36 +124,67 @@ pub fn is_present(stage: u8, wires: &[u8], i: usize) -> bool
     wire_layer(wires, i) <= stage
 }
 
-pub fn obstacle_count(obstacles: &[u8]) -> usize
-    ensures { λ r. ⌜ r ≡ obstacleCount (now (obstacles .entry)) ⌝ }
+// Bytes of an obstacle.
+pub fn obstacle_bytes(version: u16) -> usize
+    ensures { λ r. ⌜ r ≡ obstacleBytes version ⌝ }
 {
+    if version == FIRST {
+        return FIRST_OBSTACLE_BYTES;
+    }
+    OBSTACLE_BYTES
+}
+
+pub fn obstacle_count(version: u16, obstacles: &[u8]) -> usize
+    ensures { λ r. ⌜ r ≡ obstacleCount version (now (obstacles .entry)) ⌝ }
+{
+    if version == FIRST {
+        return obstacles.len() / FIRST_OBSTACLE_BYTES;
+    }
     obstacles.len() / OBSTACLE_BYTES
 }
 
-pub fn obstacle_x1(obstacles: &[u8], k: usize) -> u16
-    requires { ⌜ k < obstacleCount (now obstacles) ⌝ }
-    ensures { λ r. ⌜ r ≡ obstacleX1 (now (obstacles .entry)) k ⌝ }
+// A coordinate of obstacle k, so many bytes behind its first.
+fn obstacle_coordinate(version: u16, obstacles: &[u8], k: usize, behind: usize) -> u16
+    requires { ⌜ (k < obstacleCount version (now obstacles)) × (behind ≤ 6) ⌝ }
+    ensures { λ r. ⌜ r ≡ le16 (now (obstacles .entry)) (obstacleBytes version * k + behind) ⌝ }
 {
-    u16_at(obstacles, OBSTACLE_BYTES * k)
+    u16_at(obstacles, obstacle_bytes(version) * k + behind)
 }
 
-pub fn obstacle_y1(obstacles: &[u8], k: usize) -> u16
-    requires { ⌜ k < obstacleCount (now obstacles) ⌝ }
-    ensures { λ r. ⌜ r ≡ obstacleY1 (now (obstacles .entry)) k ⌝ }
+pub fn obstacle_x1(version: u16, obstacles: &[u8], k: usize) -> u16
+    requires { ⌜ k < obstacleCount version (now obstacles) ⌝ }
+    ensures { λ r. ⌜ r ≡ obstacleX1 version (now (obstacles .entry)) k ⌝ }
 {
-    u16_at(obstacles, OBSTACLE_BYTES * k + 2)
+    obstacle_coordinate(version, obstacles, k, 0)
 }
 
-pub fn obstacle_x2(obstacles: &[u8], k: usize) -> u16
-    requires { ⌜ k < obstacleCount (now obstacles) ⌝ }
-    ensures { λ r. ⌜ r ≡ obstacleX2 (now (obstacles .entry)) k ⌝ }
+pub fn obstacle_y1(version: u16, obstacles: &[u8], k: usize) -> u16
+    requires { ⌜ k < obstacleCount version (now obstacles) ⌝ }
+    ensures { λ r. ⌜ r ≡ obstacleY1 version (now (obstacles .entry)) k ⌝ }
 {
-    u16_at(obstacles, OBSTACLE_BYTES * k + 4)
+    obstacle_coordinate(version, obstacles, k, 2)
 }
 
-pub fn obstacle_y2(obstacles: &[u8], k: usize) -> u16
-    requires { ⌜ k < obstacleCount (now obstacles) ⌝ }
-    ensures { λ r. ⌜ r ≡ obstacleY2 (now (obstacles .entry)) k ⌝ }
+pub fn obstacle_x2(version: u16, obstacles: &[u8], k: usize) -> u16
+    requires { ⌜ k < obstacleCount version (now obstacles) ⌝ }
+    ensures { λ r. ⌜ r ≡ obstacleX2 version (now (obstacles .entry)) k ⌝ }
 {
-    u16_at(obstacles, OBSTACLE_BYTES * k + 6)
+    obstacle_coordinate(version, obstacles, k, 4)
+}
+
+pub fn obstacle_y2(version: u16, obstacles: &[u8], k: usize) -> u16
+    requires { ⌜ k < obstacleCount version (now obstacles) ⌝ }
+    ensures { λ r. ⌜ r ≡ obstacleY2 version (now (obstacles .entry)) k ⌝ }
+{
+    obstacle_coordinate(version, obstacles, k, 6)
+}
+
+pub fn obstacle_layer(version: u16, obstacles: &[u8], k: usize) -> u8
+    requires { ⌜ k < obstacleCount version (now obstacles) ⌝ }
+    ensures { λ r. ⌜ r ≡ obstacleLayer version (now (obstacles .entry)) k ⌝ }
+{
+    if version == FIRST {
+        return MOST_LAYERS;
+    }
+    obstacles[OBSTACLE_BYTES * k + 8]
 }

@@ -3,12 +3,14 @@
 // Bytes of the head: version, pair count and three pairs.
 pub const HEAD_BYTES: usize = 28;
 
-// Bytes of a node, a wire, an obstacle, a jumper list entry and a piece record.
+// Bytes of a node, a wire, an obstacle of version 1 and of the newest version, a jumper list entry and a piece record.
 pub const NODE_BYTES: usize = 5;
 
 pub const WIRE_BYTES: usize = 3;
 
-pub const OBSTACLE_BYTES: usize = 8;
+pub const FIRST_OBSTACLE_BYTES: usize = 8;
+
+pub const OBSTACLE_BYTES: usize = 9;
 
 pub const ENTRY_BYTES: usize = 3;
 
@@ -23,8 +25,10 @@ pub const MOST_LAYERS: u8 = 16;
 
 pub const MOST_FLAGS: u8 = 3;
 
-// Version and pair count of a net file.
-pub const VERSION: u16 = 1;
+// The versions of net files, and their pair count.
+pub const FIRST: u16 = 1;
+
+pub const NEWEST: u16 = 2;
 
 pub const PAIR_COUNT: u16 = 3;
 

@@ -8,7 +8,9 @@ use crate::fields::node_count;
 use crate::fields::node_flags;
 use crate::fields::node_x;
 use crate::fields::node_y;
+use crate::fields::obstacle_bytes;
 use crate::fields::obstacle_count;
+use crate::fields::obstacle_layer;
 use crate::fields::obstacle_x1;
 use crate::fields::obstacle_x2;
 use crate::fields::obstacle_y1;
@@ -21,7 +23,6 @@ use crate::layout::MOST_LAYERS;
 use crate::layout::MOST_NODES;
 use crate::layout::MOST_OBSTACLES;
 use crate::layout::NODE_BYTES;
-use crate::layout::OBSTACLE_BYTES;
 use crate::layout::WIRE_BYTES;
 use crate::sections;
 ghost use mathlib.Core.Path.{_≡_};
@@ -31,14 +32,14 @@ ghost use Rattle.net.specs.Layout.{wireBytes};
 ghost use Rattle.net.specs.Net.{nodeCount, obstacleCount};
 ghost use Rattle.net.specs.Refusal.{readAnswer, readRefusal, netRefusal, firstOf, sectionsRefusal, nodeRefusal, wireRefusal, obstacleRefusal};
 
-// Accepted with the count of its nodes, or the first of 2 to 11 that the file meets.
+// Accepted with the count of its nodes, or the first of 2 to 11 and 20 that the file meets.
 pub fn read(file: &[u8]) -> Answer
     ensures { λ r. ⌜ r ≡ readAnswer (now (file .entry)) ⌝ }
 {
     answered(read_refusal(file), node_count(sections::nodes(file)) as u64)
 }
 
-// 2 to 11 on a file.
+// 2 to 11 and 20 on a file.
 pub fn read_refusal(file: &[u8]) -> Refusal
     ensures { λ r. ⌜ r ≡ readRefusal (now (file .entry)) ⌝ }
 {
@@ -47,17 +48,18 @@ pub fn read_refusal(file: &[u8]) -> Refusal
         return r;
     }
     net_refusal(
+        sections::version(file),
         sections::stretch(file, 0),
         sections::stretch(file, 1),
         sections::stretch(file, 2),
     )
 }
 
-// 4 to 11 on three sections.
-pub fn net_refusal(nodes: &[u8], wires: &[u8], obstacles: &[u8]) -> Refusal
-    ensures { λ r. ⌜ r ≡ netRefusal (now (nodes .entry)) (now (wires .entry)) (now (obstacles .entry)) ⌝ }
+// 4 to 11 and 20 on three sections.
+pub fn net_refusal(version: u16, nodes: &[u8], wires: &[u8], obstacles: &[u8]) -> Refusal
+    ensures { λ r. ⌜ r ≡ netRefusal version (now (nodes .entry)) (now (wires .entry)) (now (obstacles .entry)) ⌝ }
 {
-    let of_sections = sections_refusal(nodes, wires, obstacles);
+    let of_sections = sections_refusal(version, nodes, wires, obstacles);
     if of_sections.number != 0 {
         return of_sections;
     }
@@ -69,12 +71,12 @@ pub fn net_refusal(nodes: &[u8], wires: &[u8], obstacles: &[u8]) -> Refusal
     if of_wires.number != 0 {
         return of_wires;
     }
-    obstacles_refusal(obstacles)
+    obstacles_refusal(version, obstacles)
 }
 
 // Sections: 4, 5, 6.
-fn sections_refusal(nodes: &[u8], wires: &[u8], obstacles: &[u8]) -> Refusal
-    ensures { λ r. ⌜ r ≡ sectionsRefusal (now (nodes .entry)) (now (wires .entry)) (now (obstacles .entry)) ⌝ }
+fn sections_refusal(version: u16, nodes: &[u8], wires: &[u8], obstacles: &[u8]) -> Refusal
+    ensures { λ r. ⌜ r ≡ sectionsRefusal version (now (nodes .entry)) (now (wires .entry)) (now (obstacles .entry)) ⌝ }
 {
     let count = node_count(nodes);
     if nodes.len() % NODE_BYTES != 0 {
@@ -89,10 +91,11 @@ fn sections_refusal(nodes: &[u8], wires: &[u8], obstacles: &[u8]) -> Refusal
     if wires.len() != WIRE_BYTES * (count - 1) {
         return refused(5, 0);
     }
-    if obstacles.len() % OBSTACLE_BYTES != 0 {
+    let obstacles_count = obstacle_count(version, obstacles);
+    if obstacles.len() != obstacle_bytes(version) * obstacles_count {
         return refused(6, 0);
     }
-    if MOST_OBSTACLES < obstacle_count(obstacles) {
+    if MOST_OBSTACLES < obstacles_count {
         return refused(6, 0);
     }
     none()
@@ -158,18 +161,37 @@ fn wires_refusal(nodes: &[u8], wires: &[u8]) -> Refusal
     none()
 }
 
-// Each obstacle: 11.
-fn obstacles_refusal(obstacles: &[u8]) -> Refusal
-    ensures { λ r. ⌜ r ≡ firstOf (obstacleCount (now (obstacles .entry))) (λ k. obstacleRefusal (now (obstacles .entry)) k) ⌝ }
+// Obstacle k: 11, 20.
+fn obstacle_refusal(version: u16, obstacles: &[u8], k: usize) -> Refusal
+    requires { ⌜ k < obstacleCount version (now obstacles) ⌝ }
+    ensures { λ r. ⌜ r ≡ obstacleRefusal version (now (obstacles .entry)) k ⌝ }
 {
-    let count = obstacle_count(obstacles);
+    if obstacle_x2(version, obstacles, k) < obstacle_x1(version, obstacles, k) {
+        return refused(11, k as u64);
+    }
+    if obstacle_y2(version, obstacles, k) < obstacle_y1(version, obstacles, k) {
+        return refused(11, k as u64);
+    }
+    let layer = obstacle_layer(version, obstacles, k);
+    if layer == 0 {
+        return refused(20, k as u64);
+    }
+    if MOST_LAYERS < layer {
+        return refused(20, k as u64);
+    }
+    none()
+}
+
+// Each obstacle.
+fn obstacles_refusal(version: u16, obstacles: &[u8]) -> Refusal
+    ensures { λ r. ⌜ r ≡ firstOf (obstacleCount version (now (obstacles .entry))) (λ k. obstacleRefusal version (now (obstacles .entry)) k) ⌝ }
+{
+    let count = obstacle_count(version, obstacles);
     let mut k = 0;
     while k < count {
-        if obstacle_x2(obstacles, k) < obstacle_x1(obstacles, k) {
-            return refused(11, k as u64);
-        }
-        if obstacle_y2(obstacles, k) < obstacle_y1(obstacles, k) {
-            return refused(11, k as u64);
+        let r = obstacle_refusal(version, obstacles, k);
+        if r.number != 0 {
+            return r;
         }
         k += 1;
     }

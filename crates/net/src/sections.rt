@@ -4,21 +4,40 @@ use crate::answers::none;
 use crate::answers::refused;
 use crate::fields::u16_at;
 use crate::fields::u32_at;
+use crate::layout::FIRST;
 use crate::layout::HEAD_BYTES;
 use crate::layout::LENGTH_AT;
+use crate::layout::NEWEST;
 use crate::layout::PAIR_BYTES;
 use crate::layout::PAIR_COUNT;
 use crate::layout::PAIR_COUNT_AT;
 use crate::layout::PAIRS_AT;
-use crate::layout::VERSION;
 use crate::layout::VERSION_AT;
 ghost use mathlib.Core.Path.{_≡_};
 ghost use mathlib.Core.Bool.{false};
 ghost use Prim.Native.Nat.{_+_, _<_, _≤_};
 ghost use lib.ListN.{length};
 ghost use Rattle.net.specs.Layout.{headBytes};
-ghost use Rattle.net.specs.File.{offset, extent, stretch};
-ghost use Rattle.net.specs.Refusal.{met, orElse, headRefusal, pairsRefusal, sectionOf, nodesOf, wiresOf, obstaclesOf};
+ghost use Rattle.net.specs.File.{versionOf, offset, extent, stretch};
+ghost use Rattle.net.specs.Refusal.{met, orElse, isVersion, headRefusal, pairsRefusal, sectionOf, nodesOf, wiresOf, obstaclesOf};
+
+// The version of a file that has a head.
+pub fn version(file: &[u8]) -> u16
+    requires { ⌜ headBytes ≤ length (now file) ⌝ }
+    ensures { λ r. ⌜ r ≡ versionOf (now (file .entry)) ⌝ }
+{
+    u16_at(file, VERSION_AT)
+}
+
+// Net files have this version.
+pub fn is_version(version: u32) -> bool
+    ensures { λ r. ⌜ r ≡ isVersion version ⌝ }
+{
+    if version == FIRST as u32 {
+        return true;
+    }
+    version == NEWEST as u32
+}
 
 // The nodes of a file: that part of it, or an empty part after 2 or 3.
 pub fn nodes(file: &[u8]) -> &[u8]
@@ -81,7 +100,7 @@ fn head_refusal(file: &[u8]) -> Refusal
     if file.len() < HEAD_BYTES {
         return refused(2, 0);
     }
-    if u16_at(file, VERSION_AT) != VERSION {
+    if !is_version(version(file) as u32) {
         return refused(2, 0);
     }
     if u16_at(file, PAIR_COUNT_AT) != PAIR_COUNT {

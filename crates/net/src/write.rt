@@ -1,4 +1,4 @@
-// The writer: three sections written as one net file.
+// The writer: three sections written as one net file of a version.
 use crate::Answer;
 use crate::answers::answered;
 use crate::answers::none;
@@ -9,8 +9,8 @@ use crate::layout::PAIR_BYTES;
 use crate::layout::PAIR_COUNT;
 use crate::layout::PAIR_COUNT_AT;
 use crate::layout::PAIRS_AT;
-use crate::layout::VERSION;
 use crate::read::net_refusal;
+use crate::sections::is_version;
 ghost use mathlib.Core.Path.{_≡_};
 ghost use mathlib.Core.List.{_++_};
 ghost use Prim.Native.Nat.{_+_, _<_, _≤_};
@@ -22,11 +22,15 @@ ghost use Rattle.net.specs.File.{headOf, fileOf, fileBytes};
 ghost use Rattle.net.specs.Writing.{pairsOf};
 ghost use Rattle.net.specs.Refusal.{writeAnswer, writeBuffer};
 
-// The file at the start of out, or the first of 4 to 11 and 16, with out as it was.
-pub fn write(nodes: &[u8], wires: &[u8], obstacles: &[u8], out: &mut [u8]) -> Answer
-    ensures { λ r. ⌜ (r ≡ writeAnswer (now (nodes .entry)) (now (wires .entry)) (now (obstacles .entry)) (length (now (out .entry)))) × (now (out .exit) ≡ writeBuffer (now (nodes .entry)) (now (wires .entry)) (now (obstacles .entry)) (now (out .entry))) ⌝ }
+// The file at the start of out, or the first of 2, 4 to 11, 20 and 16, with out as it was.
+pub fn write(version: u32, nodes: &[u8], wires: &[u8], obstacles: &[u8], out: &mut [u8]) -> Answer
+    ensures { λ r. ⌜ (r ≡ writeAnswer version (now (nodes .entry)) (now (wires .entry)) (now (obstacles .entry)) (length (now (out .entry)))) × (now (out .exit) ≡ writeBuffer version (now (nodes .entry)) (now (wires .entry)) (now (obstacles .entry)) (now (out .entry))) ⌝ }
 {
-    let r = net_refusal(nodes, wires, obstacles);
+    if !is_version(version) {
+        return answered(refused(2, 0), 0);
+    }
+    let file_version = version as u16;
+    let r = net_refusal(file_version, nodes, wires, obstacles);
     if r.number != 0 {
         return answered(r, 0);
     }
@@ -34,27 +38,27 @@ pub fn write(nodes: &[u8], wires: &[u8], obstacles: &[u8], out: &mut [u8]) -> An
     if out.len() < needed {
         return answered(refused(16, needed as u64), 0);
     }
-    write_file(nodes, wires, obstacles, out);
+    write_file(file_version, nodes, wires, obstacles, out);
     answered(none(), needed as u64)
 }
 
 // Head, nodes, wires and obstacles, one behind the other.
-pub fn write_file(nodes: &[u8], wires: &[u8], obstacles: &[u8], out: &mut [u8])
+pub fn write_file(version: u16, nodes: &[u8], wires: &[u8], obstacles: &[u8], out: &mut [u8])
     requires { ⌜ fileBytes (now nodes) (now wires) (now obstacles) ≤ length (now out) ⌝ }
-    ensures { λ r. ⌜ now (out .exit) ≡ over (fileOf (now (nodes .entry)) (now (wires .entry)) (now (obstacles .entry))) (now (out .entry)) ⌝ }
+    ensures { λ r. ⌜ now (out .exit) ≡ over (fileOf version (now (nodes .entry)) (now (wires .entry)) (now (obstacles .entry))) (now (out .entry)) ⌝ }
 {
     let wires_at = HEAD_BYTES + nodes.len();
-    write_head(nodes.len(), wires.len(), obstacles.len(), out);
+    write_head(version, nodes.len(), wires.len(), obstacles.len(), out);
     copy(nodes, &mut out[HEAD_BYTES..]);
     copy_two(wires, obstacles, &mut out[wires_at..]);
 }
 
 // Version, pair count and the three pairs.
-fn write_head(nodes: usize, wires: usize, obstacles: usize, out: &mut [u8])
+fn write_head(version: u16, nodes: usize, wires: usize, obstacles: usize, out: &mut [u8])
     requires { ⌜ (headBytes ≤ length (now out)) × (headBytes + nodes + wires < 18446744073709551616) ⌝ }
-    ensures { λ r. ⌜ now (out .exit) ≡ over (headOf nodes wires obstacles) (now (out .entry)) ⌝ }
+    ensures { λ r. ⌜ now (out .exit) ≡ over (headOf version nodes wires obstacles) (now (out .entry)) ⌝ }
 {
-    put16(VERSION, out);
+    put16(version, out);
     put16(PAIR_COUNT, &mut out[PAIR_COUNT_AT..]);
     put_pairs(nodes, wires, obstacles, &mut out[PAIRS_AT..]);
 }

@@ -16,9 +16,9 @@ use mir.Syntax.{w32}
 use borrow.Author.Tests.{ltb-true, ltb-false, lt-ltb, le-ltb, leb-true, leb-false, le-leb}
 use Rattle.laws.specs.Sum.{any}
 use Rattle.laws.specs.Sums.{by, no-both, and-left, and-right, and-intro, any-yes, any-none}
-use Rattle.net.specs.Layout.{nodeBytes}
+use Rattle.net.specs.Layout.{newest, nodeBytes}
 use Rattle.net.specs.Limits.{lengthBound}
-use Rattle.net.specs.Net.{distance, toward, nodeCount, nodeX, nodeY, wireParent, wireLength, pointX, pointY, obstacleX1, obstacleY1, obstacleX2, obstacleY2, obstacleCount, holds, barred}
+use Rattle.net.specs.Net.{distance, toward, nodeCount, nodeX, nodeY, wireParent, wireLength, pointX, pointY, obstacleX1, obstacleY1, obstacleX2, obstacleY2, obstacleLayer, obstacleCount, wireLayer, holds, barred}
 use Rattle.net.specs.Accepted.{NetRight}
 use Rattle.points.specs.Cuttable.{Checked, Highest, Lowest, LastBelow, FirstAbove}
 
@@ -254,39 +254,42 @@ point-y-is nodes wires i t = stepped-toward (nodeY nodes i) (nodeY nodes (wirePa
 
 -- an obstacle's stretch of a line, on both axes
 pub obstacle-below : (obstacles : List ℕ) (k x y : ℕ) (dx dy : ℤ) {a b r : ℕ} →
-    a ≡ lastBelow x dx (obstacleX1 obstacles k) (obstacleX2 obstacles k) → b ≡ lastBelow y dy (obstacleY1 obstacles k) (obstacleY2 obstacles k) →
-    a ≤ r → b ≤ r → (r ≡ a) ⊎ (r ≡ b) → LastBelow (λ t. holds obstacles k (stepped x dx t) (stepped y dy t)) r
+    a ≡ lastBelow x dx (obstacleX1 newest obstacles k) (obstacleX2 newest obstacles k) → b ≡ lastBelow y dy (obstacleY1 newest obstacles k) (obstacleY2 newest obstacles k) →
+    a ≤ r → b ≤ r → (r ≡ a) ⊎ (r ≡ b) → LastBelow (λ t. holds newest obstacles k (stepped x dx t) (stepped y dy t)) r
 unfolding holds
 obstacle-below obstacles k x y dx dy ea eb l m o =
     both-below
-    (rw (← ea) at (axis-below x dx (obstacleX1 obstacles k) (obstacleX2 obstacles k)))
-    (rw (← eb) at (axis-below y dy (obstacleY1 obstacles k) (obstacleY2 obstacles k)))
+    (rw (← ea) at (axis-below x dx (obstacleX1 newest obstacles k) (obstacleX2 newest obstacles k)))
+    (rw (← eb) at (axis-below y dy (obstacleY1 newest obstacles k) (obstacleY2 newest obstacles k)))
     l
     m
     o
 
 pub obstacle-above : (obstacles : List ℕ) (k x y end : ℕ) (dx dy : ℤ) {a b r : ℕ} → Reach x dx end → Reach y dy end →
-    a ≡ firstAbove x dx (obstacleX1 obstacles k) (obstacleX2 obstacles k) end → b ≡ firstAbove y dy (obstacleY1 obstacles k) (obstacleY2 obstacles k) end →
-    r ≤ a → r ≤ b → (r ≡ a) ⊎ (r ≡ b) → FirstAbove (λ t. holds obstacles k (stepped x dx t) (stepped y dy t)) end r
+    a ≡ firstAbove x dx (obstacleX1 newest obstacles k) (obstacleX2 newest obstacles k) end → b ≡ firstAbove y dy (obstacleY1 newest obstacles k) (obstacleY2 newest obstacles k) end →
+    r ≤ a → r ≤ b → (r ≡ a) ⊎ (r ≡ b) → FirstAbove (λ t. holds newest obstacles k (stepped x dx t) (stepped y dy t)) end r
 unfolding holds
 obstacle-above obstacles k x y end dx dy rx ry ea eb l m o =
     both-above
-    (rw (← ea) at (axis-above (obstacleX1 obstacles k) (obstacleX2 obstacles k) rx))
-    (rw (← eb) at (axis-above (obstacleY1 obstacles k) (obstacleY2 obstacles k) ry))
+    (rw (← ea) at (axis-above (obstacleX1 newest obstacles k) (obstacleX2 newest obstacles k) rx))
+    (rw (← eb) at (axis-above (obstacleY1 newest obstacles k) (obstacleY2 newest obstacles k) ry))
     l
     m
     o
 
--- some obstacle holds the point t steps on from x, y
-unfoldable pub heldAt : List ℕ → ℕ → ℕ → ℤ → ℤ → ℕ → Bool
-heldAt obstacles x y dx dy t = any (obstacleCount obstacles) (λ k. holds obstacles k (stepped x dx t) (stepped y dy t))
+-- obstacle k bars the point x, y to a wire of a layer
+abbrev pub bars : ℕ → List ℕ → ℕ → ℕ → ℕ → ℕ → Bool
+bars version obstacles layer k x y = holds version obstacles k x y && leb layer (obstacleLayer version obstacles k)
 
-pub held-is : (nodes wires obstacles : List ℕ) (i t : ℕ) →
-    heldAt obstacles (nodeX nodes i) (nodeY nodes i) (heading (nodeX nodes i) (nodeX nodes (wireParent wires i))) (heading (nodeY nodes i) (nodeY nodes (wireParent wires i))) t
-    ≡ barred nodes wires obstacles i t
-unfolding heldAt barred
-held-is nodes wires obstacles i t =
-    rw (point-x-is nodes wires i t, point-y-is nodes wires i t)
+-- some obstacle bars the point t steps on from x, y
+unfoldable pub barredAt : List ℕ → ℕ → ℕ → ℕ → ℤ → ℤ → ℕ → Bool
+barredAt obstacles layer x y dx dy t = any (obstacleCount newest obstacles) (λ k. bars newest obstacles layer k (stepped x dx t) (stepped y dy t))
+
+pub barred-is : (nodes wires obstacles : List ℕ) (i t : ℕ) →
+    barredAt obstacles (wireLayer wires i) (nodeX nodes i) (nodeY nodes i) (heading (nodeX nodes i) (nodeX nodes (wireParent wires i))) (heading (nodeY nodes i) (nodeY nodes (wireParent wires i))) t
+    ≡ barred newest nodes wires obstacles i t
+unfolding barredAt barred
+barred-is nodes wires obstacles i t = rw (point-x-is nodes wires i t, point-y-is nodes wires i t)
 
 -- the first of n that passes a test tells whether any does
 pub first-none : (n r : ℕ) (f : ℕ → Bool) → ((j : ℕ) → j < r → f j ≡ false) → n ≤ r → any n f ≡ false
@@ -297,29 +300,31 @@ first-any n r f before found =
     by (ltb r n) (λ h. h ∙ sym (any-yes n r f (ltb-true r n h) (found (ltb-true r n h))))
     (λ h. h ∙ sym (first-none n r f before (ltb-false r n h)))
 
--- an obstacle that holds a position is left behind in one step
-module _ (obstacles : List ℕ) (k x y : ℕ) (dx dy : ℤ) (inside : k < obstacleCount obstacles) {t r : ℕ} (held : holds obstacles k (stepped x dx t) (stepped y dy t) ≡ true) where
-  pub leap-down : {last : ℕ} → 0 < t → LastBelow (λ t. holds obstacles k (stepped x dx t) (stepped y dy t)) r →
-      ((s : ℕ) → t < s → s ≤ last → heldAt obstacles x y dx dy s ≡ true) → (r < t) × ((s : ℕ) → r < s → s ≤ last → heldAt obstacles x y dx dy s ≡ true)
-  unfolding heldAt
-  leap-down {last} p b passed =
-      let z = b t p held in (
-        z .0,
-        λ s l m.
-            by (leb s t) (λ h. any-yes (obstacleCount obstacles) k (λ k. holds obstacles k (stepped x dx s) (stepped y dy s)) inside (z .1 s l (leb-true s t h)))
-            (λ h. passed s (leb-false s t h) m),
-      )
+-- an obstacle that bars a position is left behind in one step
+module _ (obstacles : List ℕ) (layer k x y : ℕ) (dx dy : ℤ) (inside : k < obstacleCount newest obstacles) where
+  -- it holds that position, and it bars every position that it holds
+  held : (t : ℕ) → bars newest obstacles layer k (stepped x dx t) (stepped y dy t) ≡ true → holds newest obstacles k (stepped x dx t) (stepped y dy t) ≡ true
+  held t h = and-left (holds newest obstacles k (stepped x dx t) (stepped y dy t)) (leb layer (obstacleLayer newest obstacles k)) h
 
-  pub leap-up : {first end : ℕ} → t < end → FirstAbove (λ t. holds obstacles k (stepped x dx t) (stepped y dy t)) end r →
-      ((s : ℕ) → first ≤ s → s < t → heldAt obstacles x y dx dy s ≡ true) → (t < r) × ((s : ℕ) → first ≤ s → s < r → heldAt obstacles x y dx dy s ≡ true)
-  unfolding heldAt
-  leap-up {first} {end} p b passed =
-      let z = b t p held in (
-        z .0,
-        λ s l m.
-            by (ltb s t) (λ h. passed s l (ltb-true s t h))
-            (λ h. any-yes (obstacleCount obstacles) k (λ k. holds obstacles k (stepped x dx s) (stepped y dy s)) inside (z .1 s (ltb-false s t h) m)),
-      )
+  bars-held : (t s : ℕ) → bars newest obstacles layer k (stepped x dx t) (stepped y dy t) ≡ true → holds newest obstacles k (stepped x dx s) (stepped y dy s) ≡ true → barredAt obstacles layer x y dx dy s ≡ true
+  unfolding barredAt
+  bars-held t s h g =
+      any-yes (obstacleCount newest obstacles) k (λ k. bars newest obstacles layer k (stepped x dx s) (stepped y dy s)) inside
+      (and-intro g (and-right (holds newest obstacles k (stepped x dx t) (stepped y dy t)) (leb layer (obstacleLayer newest obstacles k)) h))
+
+  pub leap-down : {t r last : ℕ} → bars newest obstacles layer k (stepped x dx t) (stepped y dy t) ≡ true → 0 < t →
+      LastBelow (λ t. holds newest obstacles k (stepped x dx t) (stepped y dy t)) r →
+      ((s : ℕ) → t < s → s ≤ last → barredAt obstacles layer x y dx dy s ≡ true) → (r < t) × ((s : ℕ) → r < s → s ≤ last → barredAt obstacles layer x y dx dy s ≡ true)
+  leap-down {t} h p b passed =
+      let z = b t p (held t h) in
+      (z .0, λ s l m. by (leb s t) (λ u. bars-held t s h (z .1 s l (leb-true s t u))) (λ u. passed s (leb-false s t u) m))
+
+  pub leap-up : {t r first end : ℕ} → bars newest obstacles layer k (stepped x dx t) (stepped y dy t) ≡ true → t < end →
+      FirstAbove (λ t. holds newest obstacles k (stepped x dx t) (stepped y dy t)) end r →
+      ((s : ℕ) → first ≤ s → s < t → barredAt obstacles layer x y dx dy s ≡ true) → (t < r) × ((s : ℕ) → first ≤ s → s < r → barredAt obstacles layer x y dx dy s ≡ true)
+  leap-up {t} h p b passed =
+      let z = b t p (held t h) in
+      (z .0, λ s l m. by (ltb s t) (λ u. passed s l (ltb-true s t u)) (λ u. bars-held t s h (z .1 s (ltb-false s t u) m)))
 
 -- a search that speaks of the same test
 pub highest-ap : {b d : ℕ → Bool} {x r : ℕ} → ((t : ℕ) → b t ≡ d t) → Highest b x r → Highest d x r
@@ -336,8 +341,8 @@ lowest-ap e h =
       none = λ z t l m. sym (e t) ∙ h .none z t l m;
     }
 
--- a wire of a net that meets none of 4 to 11
-pub checked-of : {nodes wires obstacles : List ℕ} → NetRight nodes wires obstacles → (i : ℕ) → 0 < i → i < nodeCount nodes → Checked nodes wires i
+-- a wire of a net that meets none of 4 to 11 and 20
+pub checked-of : {version : ℕ} {nodes wires obstacles : List ℕ} → NetRight version nodes wires obstacles → (i : ℕ) → 0 < i → i < nodeCount nodes → Checked nodes wires i
 checked-of net i p l =
     let w = net .wire i p l in
     record { numbered = p; stored = omega (arith, net .sized .wires-length); node = l; parent = omega (arith, w .below); straight = w .straight }

@@ -1,21 +1,25 @@
-// The points of a wire, by signed coordinate differences, and the obstacles that hold them.
+// The points of a wire, by signed coordinate differences, and the obstacles that bar them. The search sees obstacles in the form of the newest version.
 use net::fields::node_x;
 use net::fields::node_y;
 use net::fields::obstacle_count;
+use net::fields::obstacle_layer;
 use net::fields::obstacle_x1;
 use net::fields::obstacle_x2;
 use net::fields::obstacle_y1;
 use net::fields::obstacle_y2;
+use net::fields::wire_layer;
 use net::fields::wire_parent;
+use net::layout::NEWEST;
 ghost use mathlib.Core.Path.{_≡_};
 ghost use mathlib.Core.Bool.{true, false};
 ghost use mathlib.Core.Logic.{_⊎_};
 ghost use Prim.Native.Nat.{ℕ, _+_, _-_, _<_, _≤_};
 ghost use lib.IntN.{subℕ};
+ghost use Rattle.net.specs.Layout.{newest};
 ghost use Rattle.net.specs.Limits.{lengthBound};
 ghost use Rattle.net.specs.Net.{distance, wireLength, pointX, pointY, obstacleCount, holds, barred};
 ghost use Rattle.points.specs.Cuttable.{Checked, Highest, Lowest, LastBelow, FirstAbove};
-ghost use Rattle.points.specs.Geometry.{heading, stepped, Reach, between, lastBelow, firstAbove, heldAt};
+ghost use Rattle.points.specs.Geometry.{heading, stepped, Reach, between, lastBelow, firstAbove, bars, barredAt};
 
 // The length of wire i.
 pub fn length_of(nodes: &[u8], wires: &[u8], i: usize) -> u32
@@ -46,54 +50,78 @@ pub fn point_y(nodes: &[u8], wires: &[u8], i: usize, t: u32) -> u16
     at_step(from, direction(from, to), t)
 }
 
-// Position t of wire i is barred.
-pub fn is_barred(nodes: &[u8], wires: &[u8], obstacles: &[u8], i: usize, t: u32) -> bool
+// Position t of wire i is barred, by obstacles of any version.
+pub fn is_barred(
+    version: u16,
+    nodes: &[u8],
+    wires: &[u8],
+    obstacles: &[u8],
+    i: usize,
+    t: u32,
+) -> bool
     requires { ⌜ Checked (now nodes) (now wires) i × (t ≤ wireLength (now nodes) (now wires) i) ⌝ }
-    ensures { λ r. ⌜ r ≡ barred (now (nodes .entry)) (now (wires .entry)) (now (obstacles .entry)) i t ⌝ }
+    ensures { λ r. ⌜ r ≡ barred version (now (nodes .entry)) (now (wires .entry)) (now (obstacles .entry)) i t ⌝ }
 {
-    first_holding(
+    first_barring(
+        version,
         obstacles,
+        wire_layer(wires, i),
         point_x(nodes, wires, i, t),
         point_y(nodes, wires, i, t),
     )
-        < obstacle_count(obstacles)
+        < obstacle_count(version, obstacles)
 }
 
 // The highest position of wire i from 1 to x that is not barred, or 0 where there is none.
 pub fn highest_cuttable(nodes: &[u8], wires: &[u8], obstacles: &[u8], i: usize, x: u32) -> u32
     requires { ⌜ Checked (now nodes) (now wires) i × (x ≤ wireLength (now nodes) (now wires) i) ⌝ }
-    ensures { λ r. ⌜ Highest (barred (now (nodes .entry)) (now (wires .entry)) (now (obstacles .entry)) i) x r ⌝ }
+    ensures { λ r. ⌜ Highest (barred newest (now (nodes .entry)) (now (wires .entry)) (now (obstacles .entry)) i) x r ⌝ }
 {
     let p = wire_parent(wires, i);
     let fx = node_x(nodes, i);
     let fy = node_y(nodes, i);
     let dx = direction(fx, node_x(nodes, p));
     let dy = direction(fy, node_y(nodes, p));
-    highest_free(obstacles, fx, fy, dx, dy, x)
+    highest_free(obstacles, wire_layer(wires, i), fx, fy, dx, dy, x)
 }
 
 // The lowest position of wire i from x on and below its length that is not barred, or 0 where there is none.
 pub fn lowest_cuttable(nodes: &[u8], wires: &[u8], obstacles: &[u8], i: usize, x: u32) -> u32
     requires { ⌜ Checked (now nodes) (now wires) i × (0 < x) ⌝ }
-    ensures { λ r. ⌜ Lowest (barred (now (nodes .entry)) (now (wires .entry)) (now (obstacles .entry)) i) x (wireLength (now (nodes .entry)) (now (wires .entry)) i) r ⌝ }
+    ensures { λ r. ⌜ Lowest (barred newest (now (nodes .entry)) (now (wires .entry)) (now (obstacles .entry)) i) x (wireLength (now (nodes .entry)) (now (wires .entry)) i) r ⌝ }
 {
     let p = wire_parent(wires, i);
     let fx = node_x(nodes, i);
     let fy = node_y(nodes, i);
     let dx = direction(fx, node_x(nodes, p));
     let dy = direction(fy, node_y(nodes, p));
-    lowest_free(obstacles, fx, fy, dx, dy, x, length_of(nodes, wires, i))
+    lowest_free(
+        obstacles,
+        wire_layer(wires, i),
+        fx,
+        fy,
+        dx,
+        dy,
+        x,
+        length_of(nodes, wires, i),
+    )
 }
 
-// The search down a line from x, y in a direction: an obstacle that holds a position is left behind in one step.
-fn highest_free(obstacles: &[u8], x: u16, y: u16, dx: i32, dy: i32, last: u32) -> u32
+// The search down a line of a layer from x, y in a direction: an obstacle that bars a position is left behind in one step.
+fn highest_free(obstacles: &[u8], layer: u8, x: u16, y: u16, dx: i32, dy: i32, last: u32) -> u32
     requires { ⌜ Reach x dx last × Reach y dy last ⌝ }
-    ensures { λ r. ⌜ Highest (heldAt (now (obstacles .entry)) x y dx dy) last r ⌝ }
+    ensures { λ r. ⌜ Highest (barredAt (now (obstacles .entry)) layer x y dx dy) last r ⌝ }
 {
-    let count = obstacle_count(obstacles);
+    let count = obstacle_count(NEWEST, obstacles);
     let mut t = last;
     while 0 < t {
-        let k = first_holding(obstacles, at_step(x, dx, t), at_step(y, dy, t));
+        let k = first_barring(
+            NEWEST,
+            obstacles,
+            layer,
+            at_step(x, dx, t),
+            at_step(y, dy, t),
+        );
         if k == count {
             return t;
         }
@@ -103,14 +131,29 @@ fn highest_free(obstacles: &[u8], x: u16, y: u16, dx: i32, dy: i32, last: u32) -
 }
 
 // The search up, for positions below `end`.
-fn lowest_free(obstacles: &[u8], x: u16, y: u16, dx: i32, dy: i32, first: u32, end: u32) -> u32
+fn lowest_free(
+    obstacles: &[u8],
+    layer: u8,
+    x: u16,
+    y: u16,
+    dx: i32,
+    dy: i32,
+    first: u32,
+    end: u32,
+) -> u32
     requires { ⌜ Reach x dx end × Reach y dy end × (0 < first) ⌝ }
-    ensures { λ r. ⌜ Lowest (heldAt (now (obstacles .entry)) x y dx dy) first end r ⌝ }
+    ensures { λ r. ⌜ Lowest (barredAt (now (obstacles .entry)) layer x y dx dy) first end r ⌝ }
 {
-    let count = obstacle_count(obstacles);
+    let count = obstacle_count(NEWEST, obstacles);
     let mut t = first;
     while t < end {
-        let k = first_holding(obstacles, at_step(x, dx, t), at_step(y, dy, t));
+        let k = first_barring(
+            NEWEST,
+            obstacles,
+            layer,
+            at_step(x, dx, t),
+            at_step(y, dy, t),
+        );
         if k == count {
             return t;
         }
@@ -119,14 +162,14 @@ fn lowest_free(obstacles: &[u8], x: u16, y: u16, dx: i32, dy: i32, first: u32, e
     0
 }
 
-// The first obstacle that holds the point x, y, or their number where none does.
-fn first_holding(obstacles: &[u8], x: u16, y: u16) -> usize
-    ensures { λ r. ⌜ (r ≤ obstacleCount (now (obstacles .entry))) × ((j : ℕ) → j < r → holds (now (obstacles .entry)) j x y ≡ false) × (r < obstacleCount (now (obstacles .entry)) → holds (now (obstacles .entry)) r x y ≡ true) ⌝ }
+// The first obstacle that bars the point x, y to a wire of a layer, or their number where none does.
+fn first_barring(version: u16, obstacles: &[u8], layer: u8, x: u16, y: u16) -> usize
+    ensures { λ r. ⌜ (r ≤ obstacleCount version (now (obstacles .entry))) × ((j : ℕ) → j < r → bars version (now (obstacles .entry)) layer j x y ≡ false) × (r < obstacleCount version (now (obstacles .entry)) → bars version (now (obstacles .entry)) layer r x y ≡ true) ⌝ }
 {
-    let count = obstacle_count(obstacles);
+    let count = obstacle_count(version, obstacles);
     let mut k = 0;
     while k < count {
-        if holds_point(obstacles, k, x, y) {
+        if bars_point(version, obstacles, layer, k, x, y) {
             return k;
         }
         k += 1;
@@ -134,13 +177,32 @@ fn first_holding(obstacles: &[u8], x: u16, y: u16) -> usize
     k
 }
 
-// Obstacle k holds the point x, y.
-fn holds_point(obstacles: &[u8], k: usize, x: u16, y: u16) -> bool
-    requires { ⌜ k < obstacleCount (now obstacles) ⌝ }
-    ensures { λ r. ⌜ r ≡ holds (now (obstacles .entry)) k x y ⌝ }
+// Obstacle k bars the point x, y to a wire of a layer: it holds it, and the layer is at most its own.
+fn bars_point(version: u16, obstacles: &[u8], layer: u8, k: usize, x: u16, y: u16) -> bool
+    requires { ⌜ k < obstacleCount version (now obstacles) ⌝ }
+    ensures { λ r. ⌜ r ≡ bars version (now (obstacles .entry)) layer k x y ⌝ }
 {
-    if within(obstacle_x1(obstacles, k), obstacle_x2(obstacles, k), x) {
-        return within(obstacle_y1(obstacles, k), obstacle_y2(obstacles, k), y);
+    if holds_point(version, obstacles, k, x, y) {
+        return layer <= obstacle_layer(version, obstacles, k);
+    }
+    false
+}
+
+// Obstacle k holds the point x, y.
+fn holds_point(version: u16, obstacles: &[u8], k: usize, x: u16, y: u16) -> bool
+    requires { ⌜ k < obstacleCount version (now obstacles) ⌝ }
+    ensures { λ r. ⌜ r ≡ holds version (now (obstacles .entry)) k x y ⌝ }
+{
+    if within(
+        obstacle_x1(version, obstacles, k),
+        obstacle_x2(version, obstacles, k),
+        x,
+    ) {
+        return within(
+            obstacle_y1(version, obstacles, k),
+            obstacle_y2(version, obstacles, k),
+            y,
+        );
     }
     false
 }
@@ -157,33 +219,43 @@ fn within(low: u16, high: u16, x: u16) -> bool
 
 // The last position below the stretch that obstacle k holds of a line.
 fn last_below(obstacles: &[u8], k: usize, x: u16, y: u16, dx: i32, dy: i32) -> u32
-    requires { ⌜ k < obstacleCount (now obstacles) ⌝ }
-    ensures { λ r. ⌜ LastBelow (λ t. holds (now (obstacles .entry)) k (stepped x dx t) (stepped y dy t)) r ⌝ }
+    requires { ⌜ k < obstacleCount newest (now obstacles) ⌝ }
+    ensures { λ r. ⌜ LastBelow (λ t. holds newest (now (obstacles .entry)) k (stepped x dx t) (stepped y dy t)) r ⌝ }
 {
     larger(
-        below_on_axis(x, dx, obstacle_x1(obstacles, k), obstacle_x2(obstacles, k)),
-        below_on_axis(y, dy, obstacle_y1(obstacles, k), obstacle_y2(obstacles, k)),
+        below_on_axis(
+            x,
+            dx,
+            obstacle_x1(NEWEST, obstacles, k),
+            obstacle_x2(NEWEST, obstacles, k),
+        ),
+        below_on_axis(
+            y,
+            dy,
+            obstacle_y1(NEWEST, obstacles, k),
+            obstacle_y2(NEWEST, obstacles, k),
+        ),
     )
 }
 
 // The first position above it, `end` where the obstacle holds them all.
 fn first_above(obstacles: &[u8], k: usize, x: u16, y: u16, dx: i32, dy: i32, end: u32) -> u32
-    requires { ⌜ (k < obstacleCount (now obstacles)) × Reach x dx end × Reach y dy end ⌝ }
-    ensures { λ r. ⌜ FirstAbove (λ t. holds (now (obstacles .entry)) k (stepped x dx t) (stepped y dy t)) end r ⌝ }
+    requires { ⌜ (k < obstacleCount newest (now obstacles)) × Reach x dx end × Reach y dy end ⌝ }
+    ensures { λ r. ⌜ FirstAbove (λ t. holds newest (now (obstacles .entry)) k (stepped x dx t) (stepped y dy t)) end r ⌝ }
 {
     smaller(
         above_on_axis(
             x,
             dx,
-            obstacle_x1(obstacles, k),
-            obstacle_x2(obstacles, k),
+            obstacle_x1(NEWEST, obstacles, k),
+            obstacle_x2(NEWEST, obstacles, k),
             end,
         ),
         above_on_axis(
             y,
             dy,
-            obstacle_y1(obstacles, k),
-            obstacle_y2(obstacles, k),
+            obstacle_y1(NEWEST, obstacles, k),
+            obstacle_y2(NEWEST, obstacles, k),
             end,
         ),
     )

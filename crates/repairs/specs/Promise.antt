@@ -31,7 +31,7 @@ pub data Judged (s : Stage) (limit : ℕ) (out after : List ℕ) (r : Answer) : 
       after ≡ list ++ drop (entryBytes * n) out →
       Judged s limit out after r
 
--- repair tries 1, then 2 to 11, then 15, then 16; after a refusal the buffer holds what it held
+-- repair tries 1, then 2 to 11 and 20, then 15, then 16; after a refusal the buffer holds what it held
 pub record Repaired (stage limit : ℕ) (file out after : List ℕ) (r : Answer) : Type 0 where
   pub refused : met (callRefusal stage file) ≡ true → (r ≡ answer (callRefusal stage file) 0) × (after ≡ out)
   pub judged : met (callRefusal stage file) ≡ false → Judged (netAt file stage) limit out after r

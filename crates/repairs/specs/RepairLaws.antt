@@ -3,6 +3,7 @@
 use Prim.Native.Nat.{ℕ, zero, suc, _+_, _*_, _≤_, _<_}
 use mathlib.Core.Path.{_≡_, refl, sym, _∙_, ap}
 use mathlib.Core.Bool.{Bool, true, false, not, _&&_}
+use mathlib.Core.Logic.{_⊎_, inl, inr}
 use mathlib.Core.List.{List, _++_}
 use lib.ListN.{length, getD, drop, set, replicate, length-set, length-replicate}
 use lib.Dec.{leb, ltb}
@@ -12,15 +13,18 @@ use Rattle.laws.specs.Sum.{χ}
 use Rattle.laws.specs.Sums.{and-left, sum-bound}
 use Rattle.laws.specs.Lists.{over}
 use Rattle.net.specs.declared.Answer.{Answer}
-use Rattle.net.specs.Layout.{entryBytes}
+use Rattle.net.specs.Layout.{newest, entryBytes}
 use Rattle.net.specs.Limits.{weightBound}
-use Rattle.net.specs.Refusal.{none, refusal, answer}
+use Rattle.net.specs.Refusal.{none, refusal, answer, netRefusal}
 use Rattle.net.specs.Net.{nodeCount, wireLength, barred}
 use Rattle.net.specs.Stage.{Stage, stageOf}
 use Rattle.net.specs.Formed.{Formed}
 use Rattle.net.specs.Accepted.{NetRight, formed}
 use Rattle.points.specs.Geometry.{checked-of}
 use Rattle.pieces.specs.Legal.{Smallest, NoneLegal}
+use Rattle.pieces.specs.Barring.{none-legal-same, smallest-same}
+use Rattle.obstacles.specs.Prepared.{prepared}
+use Rattle.obstacles.specs.PreparedLaws.{prepared-agrees, prepared-none}
 use Rattle.cuts.specs.Cluster.{Sound}
 use Rattle.cuts.specs.Passes.{Down, Counted, Run, totalFewest}
 use Rattle.cuts.specs.Fits.{freeAt}
@@ -36,7 +40,7 @@ use Rattle.counting.specs.Climb.{openAt}
 use Rattle.counting.specs.Count.{workClusters, Ready, CountedAll, rootSum}
 use Rattle.choice.specs.Choose.{cutHere, anyHere, Chooses, Choosable}
 use Rattle.choice.specs.ChooseLaws.{chooses-more, chosen-of}
-use Rattle.repairs.specs.Promise.{Judged, too-short, done}
+use Rattle.repairs.specs.Promise.{Judged, no-legal-set, too-short, done}
 use Rattle.listing.specs.Listing.{listOf, countOf}
 use Rattle.listing.specs.ListingWriting.{length-listOf}
 use Rattle.listing.specs.ListingPoints.{Listable}
@@ -84,23 +88,23 @@ options n ws lo hi host cutAny anyOk anyWeight hasUngated near limit below (suc 
           (λ j l. below j (omega arith)) refl refl (o .chosen) r (omega arith);
     }
 
-module _ (ns ws os : List ℕ) (k : ℕ) (right : NetRight ns ws os) (lo hi root host component : List ℕ) (sourced : List Bool) (fixed gates : List ℕ)
+module _ (ns ws os : List ℕ) (k : ℕ) (right : NetRight newest ns ws os) (lo hi root host component : List ℕ) (sourced : List Bool) (fixed gates : List ℕ)
     (first : Clustered ns ws os k lo hi root host component sourced fixed gates) where
-  is-formed : Formed (stageOf ns ws os k)
-  is-formed = formed ns ws os right k
+  is-formed : Formed (stageOf newest ns ws os k)
+  is-formed = formed newest ns ws os right k
 
   -- a cuttable wire is present, so its free points are its open ones
-  same-free : (j t : ℕ) → j < nodeCount ns → ltb 0 (getD lo j 0) ≡ true → freeAt (stageOf ns ws os k) j t ≡ openAt ns ws os j t
+  same-free : (j t : ℕ) → j < nodeCount ns → ltb 0 (getD lo j 0) ≡ true → freeAt (stageOf newest ns ws os k) j t ≡ openAt ns ws os j t
   unfolding freeAt openAt clustersOf stageOf
   same-free j t p cut =
-      rw (and-left (stageOf ns ws os k .present j) (leb 1 (getD lo j 0) && (ltb (getD lo j 0) (wireLength ns ws j) && not (barred ns ws os j (getD lo j 0)))) (first .fits .lo-free j p cut))
+      rw (and-left (stageOf newest ns ws os k .present j) (leb 1 (getD lo j 0) && (ltb (getD lo j 0) (wireLength ns ws j) && not (barred newest ns ws os j (getD lo j 0)))) (first .fits .lo-free j p cut))
 
-  is-sound : Sound (clustersOf (stageOf ns ws os k) lo hi host fixed gates)
-  is-sound = sound-of-fits (stageOf ns ws os k) (clustersOf (stageOf ns ws os k) lo hi host fixed gates) (λ i. getD root i 0) (λ i. getD component i 0) is-formed (first .fits)
+  is-sound : Sound (clustersOf (stageOf newest ns ws os k) lo hi host fixed gates)
+  is-sound = sound-of-fits (stageOf newest ns ws os k) (clustersOf (stageOf newest ns ws os k) lo hi host fixed gates) (λ i. getD root i 0) (λ i. getD component i 0) is-formed (first .fits)
 
   sound-work : Sound (workClusters (nodeCount ns) ns ws os lo hi host fixed gates)
   unfolding workClusters clustersOf stageOf
-  sound-work = sound-free (workClusters (nodeCount ns) ns ws os lo hi host fixed gates) (λ i t. freeAt (stageOf ns ws os k) i t) same-free is-sound
+  sound-work = sound-free (workClusters (nodeCount ns) ns ws os lo hi host fixed gates) (λ i t. freeAt (stageOf newest ns ws os k) i t) same-free is-sound
 
   -- what the pass down requires
   pub ready-of : Ready (nodeCount ns) ns ws os lo hi host fixed gates
@@ -115,11 +119,11 @@ module _ (ns ws os : List ℕ) (k : ℕ) (right : NetRight ns ws os) (lo hi root
       }
 
   -- a hopeless cluster: 15
-  pub none-of : (limit : ℕ) → anyHopeless (nodeCount ns) fixed gates limit ≡ true → NoneLegal (stageOf ns ws os k) limit
+  pub none-of : (limit : ℕ) → anyHopeless (nodeCount ns) fixed gates limit ≡ true → NoneLegal (stageOf newest ns ws os k) limit
   unfolding clustersOf stageOf
   none-of limit some =
       let h = some-hopeless (nodeCount ns) fixed gates limit some in
-      hopeless-none (stageOf ns ws os k) (clustersOf (stageOf ns ws os k) lo hi host fixed gates) (λ i. getD root i 0) (λ i. getD component i 0) is-formed (first .fits) limit (h .at) (h .inside) (h .gated) (h .heavy)
+      hopeless-none (stageOf newest ns ws os k) (clustersOf (stageOf newest ns ws os k) lo hi host fixed gates) (λ i. getD root i 0) (λ i. getD component i 0) is-formed (first .fits) limit (h .at) (h .inside) (h .gated) (h .heavy)
 
   module _ (limit : ℕ) (cutAny anyOk : List Bool) (anyWeight : List ℕ) (hasUngated : List Bool) (near fewest : List ℕ) (points : ℕ)
       (worked : CountedAll (nodeCount ns) ns ws os lo hi host fixed gates limit cutAny anyOk anyWeight hasUngated near fewest points) where
@@ -127,15 +131,15 @@ module _ (ns ws os : List ℕ) (k : ℕ) (right : NetRight ns ws os) (lo hi root
     down =
         downOf cutAny fewest anyOk anyWeight (worked .counted .ungatedOk) (worked .counted .ungatedWeight) (worked .count) (worked .lightest) hasUngated (worked .ungated) near
 
-    counted : Counted (clustersOf (stageOf ns ws os k) lo hi host fixed gates) limit down 0
+    counted : Counted (clustersOf (stageOf newest ns ws os k) lo hi host fixed gates) limit down 0
     unfolding workClusters clustersOf stageOf
     counted =
-        counted-free (workClusters (nodeCount ns) ns ws os lo hi host fixed gates) (λ i t. freeAt (stageOf ns ws os k) i t) same-free (worked .counted .counted)
+        counted-free (workClusters (nodeCount ns) ns ws os lo hi host fixed gates) (λ i t. freeAt (stageOf newest ns ws os k) i t) same-free (worked .counted .counted)
 
     weight-light : (r : ℕ) → r < nodeCount ns → getD anyWeight r 0 < weightBound
     unfolding clustersOf stageOf downOf
     weight-light r p =
-        let b = cluster-bounded (clustersOf (stageOf ns ws os k) lo hi host fixed gates) limit down is-sound 0 counted r (omega arith) p in
+        let b = cluster-bounded (clustersOf (stageOf newest ns ws os k) lo hi host fixed gates) limit down is-sound 0 counted r (omega arith) p in
         omega (arith, first .light, b)
 
     -- what the pass up requires
@@ -152,26 +156,26 @@ module _ (ns ws os : List ℕ) (k : ℕ) (right : NetRight ns ws os) (lo hi root
 
     -- both passes: the list of the chosen points is that of a smallest legal set, and has as many entries as were counted
     module _ (anyMode cutHigh : List Bool) (chose : (r : ℕ) → r < nodeCount ns → Chooses ws lo hi host cutAny anyOk anyWeight hasUngated near limit anyMode cutHigh r) where
-      run : Run (clustersOf (stageOf ns ws os k) lo hi host fixed gates) limit down (upOf anyMode cutHigh)
+      run : Run (clustersOf (stageOf newest ns ws os k) lo hi host fixed gates) limit down (upOf anyMode cutHigh)
       unfolding clustersOf stageOf
       run =
           record {
             counted = counted;
             chosen = λ r p.
-                chosen-of ws lo hi host cutAny anyOk anyWeight hasUngated near limit (stageOf ns ws os k) fixed gates fewest (worked .counted .ungatedOk) (worked .counted .ungatedWeight) (worked .count) (worked .lightest) (worked .ungated) anyMode cutHigh r refl (chose r p);
+                chosen-of ws lo hi host cutAny anyOk anyWeight hasUngated near limit (stageOf newest ns ws os k) fixed gates fewest (worked .counted .ungatedOk) (worked .counted .ungatedWeight) (worked .count) (worked .lightest) (worked .ungated) anyMode cutHigh r refl (chose r p);
           }
 
-      pub planned : Planned (stageOf ns ws os k) limit hi near cutHigh points
+      pub planned : Planned (stageOf newest ns ws os k) limit hi near cutHigh points
       unfolding clustersOf stageOf downOf totalFewest rootSum
       planned =
           record {
-            smallest = smallest-list (stageOf ns ws os k) (λ i. getD root i 0) (λ i. getD component i 0) limit lo hi host fixed gates cutAny fewest anyOk anyWeight (worked .counted .ungatedOk) (worked .counted .ungatedWeight) (worked .count) (worked .lightest) hasUngated (worked .ungated) near anyMode cutHigh is-formed (first .fits) run (first .short);
-            listing = listable (stageOf ns ws os k) (λ i. getD root i 0) (λ i. getD component i 0) limit lo hi host fixed gates cutAny fewest anyOk anyWeight (worked .counted .ungatedOk) (worked .counted .ungatedWeight) (worked .count) (worked .lightest) hasUngated (worked .ungated) near anyMode cutHigh is-formed (first .fits) run (first .short);
-            points-is = worked .points-is ∙ sym (count-is-total (stageOf ns ws os k) (λ i. getD root i 0) (λ i. getD component i 0) limit lo hi host fixed gates cutAny fewest anyOk anyWeight (worked .counted .ungatedOk) (worked .counted .ungatedWeight) (worked .count) (worked .lightest) hasUngated (worked .ungated) near anyMode cutHigh is-formed (first .fits) run (first .short));
+            smallest = smallest-list (stageOf newest ns ws os k) (λ i. getD root i 0) (λ i. getD component i 0) limit lo hi host fixed gates cutAny fewest anyOk anyWeight (worked .counted .ungatedOk) (worked .counted .ungatedWeight) (worked .count) (worked .lightest) hasUngated (worked .ungated) near anyMode cutHigh is-formed (first .fits) run (first .short);
+            listing = listable (stageOf newest ns ws os k) (λ i. getD root i 0) (λ i. getD component i 0) limit lo hi host fixed gates cutAny fewest anyOk anyWeight (worked .counted .ungatedOk) (worked .counted .ungatedWeight) (worked .count) (worked .lightest) hasUngated (worked .ungated) near anyMode cutHigh is-formed (first .fits) run (first .short);
+            points-is = worked .points-is ∙ sym (count-is-total (stageOf newest ns ws os k) (λ i. getD root i 0) (λ i. getD component i 0) limit lo hi host fixed gates cutAny fewest anyOk anyWeight (worked .counted .ungatedOk) (worked .counted .ungatedWeight) (worked .count) (worked .lightest) hasUngated (worked .ungated) near anyMode cutHigh is-formed (first .fits) run (first .short));
           }
 
     -- before the pass up has run: it can choose, so as many points as were counted are the fewest
-    pub planned-some : (cutHigh : List Bool) × Planned (stageOf ns ws os k) limit hi near cutHigh points
+    pub planned-some : (cutHigh : List Bool) × Planned (stageOf newest ns ws os k) limit hi near cutHigh points
     planned-some =
         let o = options (nodeCount ns) ws lo hi host cutAny anyOk anyWeight hasUngated near limit (choosable-of .below) (nodeCount ns) (omega arith) in
         (o .cutHigh, planned (o .anyMode) (o .cutHigh) (o .chosen))
@@ -199,3 +203,19 @@ module _ {s : Stage} {limit : ℕ} {hi near : List ℕ} {cutHigh : List Bool} {p
       let q = p .points-is in
       done (listOf (s .nodes) hi near cutHigh) (countOf (s .nodes) near cutHigh) (p .smallest) (omega arith) (e ∙ ap (answer none) q)
       (a ∙ ap (λ (x : ℕ). listOf (s .nodes) hi near cutHigh ++ drop x out) (length-listOf hi near cutHigh (s .nodes)))
+
+-- over prepared obstacles, and over those that have that form as they are, the net is judged as it was given
+module _ (v : ℕ) (ns ws os : List ℕ) (k : ℕ) where
+  pub judged-prepared : {limit : ℕ} {out after : List ℕ} {r : Answer} → Judged (stageOf newest ns ws (prepared v os) k) limit out after r → Judged (stageOf v ns ws os k) limit out after r
+  unfolding stageOf
+  judged-prepared (no-legal-set n e a) = no-legal-set (none-legal-same (prepared-agrees v os ns ws k) n) e a
+  judged-prepared (too-short list n m lt e a) = too-short list n (smallest-same (prepared-agrees v os ns ws k) m) lt e a
+  judged-prepared (done list n m le e a) = done list n (smallest-same (prepared-agrees v os ns ws k) m) le e a
+
+  pub judged-as-is : {limit : ℕ} {out after : List ℕ} {r : Answer} → (v ≡ newest) ⊎ (prepared v os ≡ os) → Judged (stageOf newest ns ws os k) limit out after r → Judged (stageOf v ns ws os k) limit out after r
+  judged-as-is (inl e) j = rw e j
+  judged-as-is (inr e) j = judged-prepared (rw e j)
+
+pub none-as-is : (v : ℕ) (ns ws os : List ℕ) → (v ≡ newest) ⊎ (prepared v os ≡ os) → netRefusal v ns ws os ≡ none → netRefusal newest ns ws os ≡ none
+none-as-is v ns ws os (inl e) n = rw e at n
+none-as-is v ns ws os (inr e) n = rw e at (prepared-none v os ns ws n)

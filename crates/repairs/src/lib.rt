@@ -13,12 +13,16 @@ use net::fields::node_count;
 use net::layout::ENTRY_BYTES;
 use net::layout::MOST_NODES;
 use net::sections;
+use obstacles::PREPARED_BYTES;
+use obstacles::is_prepared;
+use obstacles::prepare;
 ghost use mathlib.Core.Path.{_≡_};
+ghost use Rattle.net.specs.Layout.{newest};
 ghost use Rattle.net.specs.Stage.{stageOf};
 ghost use Rattle.net.specs.Refusal.{none, netRefusal};
 ghost use Rattle.repairs.specs.Promise.{Judged, Repaired};
 
-// Repair on a net file at a stage: 1 and 2 to 11; then, on the net that is accepted, 15, 16, or the list.
+// Repair on a net file at a stage: 1, 2 to 11 and 20; then, on the net that is accepted, 15, 16, or the list.
 pub fn repair(stage: u32, limit: u32, file: &[u8], out: &mut [u8]) -> Answer
     ensures { λ r. ⌜ Repaired stage limit (now (file .entry)) (now (out .entry)) (now (out .exit)) r ⌝ }
 {
@@ -26,7 +30,8 @@ pub fn repair(stage: u32, limit: u32, file: &[u8], out: &mut [u8]) -> Answer
     if first.number != 0 {
         return answered(first, 0);
     }
-    repair_net(
+    repair_version(
+        sections::version(file),
         sections::nodes(file),
         sections::wires(file),
         sections::obstacles(file),
@@ -36,7 +41,28 @@ pub fn repair(stage: u32, limit: u32, file: &[u8], out: &mut [u8]) -> Answer
     )
 }
 
-// Repair on an accepted net: 15 where a cluster is hopeless, 16 where the fewest points need more bytes than lent, or the list of the points chosen.
+// Repair on an accepted net of any version: the passes see its obstacles in the form of the newest one.
+fn repair_version(
+    version: u16,
+    nodes: &[u8],
+    wires: &[u8],
+    obstacles: &[u8],
+    stage: u8,
+    limit: u64,
+    out: &mut [u8],
+) -> Answer
+    requires { ⌜ netRefusal version (now nodes) (now wires) (now obstacles) ≡ none ⌝ }
+    ensures { λ r. ⌜ Judged (stageOf version (now (nodes .entry)) (now (wires .entry)) (now (obstacles .entry)) stage) limit (now (out .entry)) (now (out .exit)) r ⌝ }
+{
+    if is_prepared(version, obstacles) {
+        return repair_net(nodes, wires, obstacles, stage, limit, out);
+    }
+    let mut room = [0u8; PREPARED_BYTES];
+    let end = prepare(version, obstacles, &mut room);
+    repair_net(nodes, wires, &room[..end], stage, limit, out)
+}
+
+// Repair on an accepted net of the newest version: 15 where a cluster is hopeless, 16 where the fewest points need more bytes than lent, or the list of the points chosen.
 pub fn repair_net(
     nodes: &[u8],
     wires: &[u8],
@@ -45,8 +71,8 @@ pub fn repair_net(
     limit: u64,
     out: &mut [u8],
 ) -> Answer
-    requires { ⌜ netRefusal (now nodes) (now wires) (now obstacles) ≡ none ⌝ }
-    ensures { λ r. ⌜ Judged (stageOf (now (nodes .entry)) (now (wires .entry)) (now (obstacles .entry)) stage) limit (now (out .entry)) (now (out .exit)) r ⌝ }
+    requires { ⌜ netRefusal newest (now nodes) (now wires) (now obstacles) ≡ none ⌝ }
+    ensures { λ r. ⌜ Judged (stageOf newest (now (nodes .entry)) (now (wires .entry)) (now (obstacles .entry)) stage) limit (now (out .entry)) (now (out .exit)) r ⌝ }
 {
     let n = node_count(nodes);
     let mut lo = [0u64; MOST_NODES];

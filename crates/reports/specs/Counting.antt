@@ -17,16 +17,16 @@ use Rattle.lists.specs.Entries.{list-set-free, list-set-size}
 use Rattle.reports.specs.ListRight.{ListRight}
 use Rattle.reports.specs.ListRights.{formed-of, inside-of, present-is}
 
-pub count-is : (ns ws list os : List ℕ) (k present : ℕ) → ListRight ns ws k list os →
+pub count-is : (v : ℕ) (ns ws list os : List ℕ) (k present : ℕ) → ListRight v ns ws k list os →
     present ≡ sum (nodeCount ns) (λ i. χ (ltb 0 i && leb (wireLayer ws i) k) 1) →
-    nodeCount ns - present + entryCount list ≡ pieceCount (stageOf ns ws os k) list
+    nodeCount ns - present + entryCount list ≡ pieceCount (stageOf v ns ws os k) list
 unfolding stageOf
-count-is ns ws list os k present j e =
-    let s = stageOf ns ws os k in
-    let a = number-of-names s (setOf list) (formed-of ns ws list os k j) (inside-of ns ws list os k j) (λ i t h. list-set-free s list (j .listed) i t h .present) in
-    let b = list-set-size s list (j .listed) (formed-of ns ws list os k j) in
+count-is v ns ws list os k present j e =
+    let s = stageOf v ns ws os k in
+    let a = number-of-names s (setOf list) (formed-of v ns ws list os k j) (inside-of v ns ws list os k j) (λ i t h. list-set-free s list (j .listed) i t h .present) in
+    let b = list-set-size s list (j .listed) (formed-of v ns ws list os k j) in
     let c =
     sum-ap (nodeCount ns) {f = λ i. χ (s .present i) 1} {g = λ i. χ (ltb 0 i && leb (wireLayer ws i) k) 1}
-    (λ i p. ap (λ (t : Bool). χ t 1) (present-is ns ws list os k j i p)) in
+    (λ i p. ap (λ (t : Bool). χ t 1) (present-is v ns ws list os k j i p)) in
     let d = Rattle.laws.specs.Sums.sum-bound (nodeCount ns) 1 {f = λ i. χ (ltb 0 i && leb (wireLayer ws i) k) 1} (λ i p. Rattle.laws.specs.Sums.χ-≤ (ltb 0 i && leb (wireLayer ws i) k) 1) in
     omega arith

@@ -12,7 +12,7 @@ use Rattle.net.specs.Layout.{recordBytes}
 use Rattle.net.specs.Net.{wireLength, pointX, pointY, holds, barred}
 use Rattle.net.specs.Stage.{stageOf}
 use Rattle.net.specs.File.{fileOf, headOf, pairsRight, stretch}
-use Rattle.net.specs.Refusal.{none, refusal, met, answer, stageRefusal, readRefusal, headRefusal, pairsRefusal, netRefusal, sectionsRefusal, nodeRefusal, wireRefusal, obstacleRefusal, firstOf, sectionOf}
+use Rattle.net.specs.Refusal.{none, refusal, met, answer, stageRefusal, readRefusal, isVersion, headRefusal, pairsRefusal, netRefusal, sectionsRefusal, nodeRefusal, wireRefusal, obstacleRefusal, firstOf, sectionOf}
 use Rattle.net.specs.Call.{netAt, callRefusal}
 use Rattle.pieces.specs.Piece.{weightOf, hasGate, hasSource, isHarmful}
 use Rattle.pieces.specs.Legal.{listed, after}
@@ -22,9 +22,21 @@ use Rattle.pieces.specs.Report.{nodeNames, stretchNames, pieceNames, flagsOf, h
 use Rattle.reports.specs.Promise.{pieceCount, piecesBuffer, reportAnswer, reportBuffer}
 use Rattle.reports.specs.Reporting.{call-refused-answer, call-refused-buffer, list-refused-answer, list-refused-buffer, short-answer, short-buffer, done-answer, done-buffer}
 
--- the file of node 0 at (0,0), a gate, and node 1 at (13,0) with given flags; wire 1 of a given layer, factor 1; no obstacle
+-- the file of a version: node 0 at (0,0), a gate, and node 1 at (13,0) with given flags; wire 1 of a given layer, factor 1; obstacles
+abbrev pub fileOfA : ℕ → ℕ → ℕ → List ℕ → List ℕ
+fileOfA version flags layer obstacles = fileOf version (0 ∷ 0 ∷ 0 ∷ 0 ∷ 1 ∷ 13 ∷ 0 ∷ 0 ∷ 0 ∷ flags ∷ []) (0 ∷ layer ∷ 1 ∷ []) obstacles
+
+-- without an obstacle
 abbrev pub fileA : ℕ → ℕ → List ℕ
-fileA flags layer = fileOf (0 ∷ 0 ∷ 0 ∷ 0 ∷ 1 ∷ 13 ∷ 0 ∷ 0 ∷ 0 ∷ flags ∷ []) (0 ∷ layer ∷ 1 ∷ []) []
+fileA flags layer = fileOfA 1 flags layer []
+
+-- the corners of an obstacle at (7,0), which is position 6
+abbrev pub corners : List ℕ
+corners = 7 ∷ 0 ∷ 0 ∷ 0 ∷ 7 ∷ 0 ∷ 0 ∷ 0 ∷ []
+
+-- with that obstacle, of a given layer; the wire is on layer 2
+abbrev pub fileB : ℕ → List ℕ
+fileB layer = fileOfA 2 1 2 (corners ++ layer ∷ [])
 
 -- the bytes of a record whose seven fields are below 256
 abbrev pub bytes : ℕ → ℕ → ℕ → ℕ → ℕ → ℕ → ℕ → List ℕ
@@ -73,6 +85,10 @@ refuses-lent stage limit file list n call listed count out less =
 abbrev pub twoJumpers : List ℕ
 twoJumpers = 1 ∷ 3 ∷ 0 ∷ 1 ∷ 9 ∷ 0 ∷ []
 
+-- one at position 6
+abbrev pub atSix : List ℕ
+atSix = 1 ∷ 6 ∷ 0 ∷ []
+
 pub record SmallReports : Type 0 where
   -- document 01's: one piece, heavier than the limit
   pub one-piece : Reports 1 12 (fileA 1 1) [] 1 (bytes 0 0 13 5 1 1 1)
@@ -85,6 +101,12 @@ pub record SmallReports : Type 0 where
   pub of-layer-2 : Reports 2 12 (fileA 1 2) [] 1 (bytes 0 0 13 5 2 1 2)
   -- the steps above the last jumper, those below the first, and the stretch between them
   pub three-pieces : Reports 1 3 (fileA 1 1) twoJumpers 3 (bytes 0 0 4 5 1 1 1 ++ bytes 1 0 3 1 1 1 1 ++ bytes 1 3 6 0 1 1 1)
+  -- a jumper at position 6 of a wire of layer 2: an obstacle of layer 1 does not bar it; one of layer 2 does, and so does one of version 1
+  pub lower-layer : Reports 2 6 (fileB 1) atSix 2 (bytes 0 0 7 5 2 1 2 ++ bytes 1 0 6 1 2 1 2)
+  pub same-layer : (out : List ℕ) → Refuses 2 6 (fileB 2) atSix (refusal 14 0) out
+  pub first-version : (out : List ℕ) → Refuses 2 6 (fileOfA 1 1 2 corners) atSix (refusal 14 0) out
+  -- 20, before 12 on the list
+  pub layer-before-list : (out : List ℕ) → Refuses 2 6 (fileB 17) (1 ∷ []) (refusal 20 0) out
   -- 16 with the bytes that all records need
   pub one-byte-short : (out : List ℕ) → length out < 36 → Refuses 1 3 (fileA 1 1) twoJumpers (refusal 16 36) out
   -- 13, however few bytes are lent
@@ -93,7 +115,7 @@ pub record SmallReports : Type 0 where
   pub stage-first : (file list out : List ℕ) → Refuses 17 3 file list (refusal 1 0) out
 
 pub small-reports : SmallReports
-unfolding fileOf headOf pairsRight stretch stageRefusal readRefusal headRefusal pairsRefusal netRefusal sectionsRefusal nodeRefusal wireRefusal obstacleRefusal firstOf sectionOf stageOf wireLength barred holds pointX pointY sum any lowest highest gather flatMap weightOf listed cutAt firstJumper lastJumper joins follow lowestNode stepName named after pointRefusal entryRefusal listRefusal nodeNames stretchNames pieceNames hasGate hasSource isHarmful flagsOf hasLayer layersOf layerCount lowestLayer recordOf reportOf
+unfolding fileOf headOf pairsRight stretch stageRefusal readRefusal isVersion headRefusal pairsRefusal netRefusal sectionsRefusal nodeRefusal wireRefusal obstacleRefusal firstOf sectionOf stageOf wireLength barred holds pointX pointY sum any lowest highest gather flatMap weightOf listed cutAt firstJumper lastJumper joins follow lowestNode stepName named after pointRefusal entryRefusal listRefusal nodeNames stretchNames pieceNames hasGate hasSource isHarmful flagsOf hasLayer layersOf layerCount lowestLayer recordOf reportOf
 small-reports =
     record {
       one-piece = reports 1 12 (fileA 1 1) [] 1 (bytes 0 0 13 5 1 1 1) refl refl refl refl;
@@ -102,6 +124,10 @@ small-reports =
       absent-wire = reports 1 0 (fileA 1 2) [] 2 (bytes 0 0 0 1 0 0 0 ++ bytes 1 0 0 1 0 0 0) refl refl refl refl;
       of-layer-2 = reports 2 12 (fileA 1 2) [] 1 (bytes 0 0 13 5 2 1 2) refl refl refl refl;
       three-pieces = reports 1 3 (fileA 1 1) twoJumpers 3 (bytes 0 0 4 5 1 1 1 ++ bytes 1 0 3 1 1 1 1 ++ bytes 1 3 6 0 1 1 1) refl refl refl refl;
+      lower-layer = reports 2 6 (fileB 1) atSix 2 (bytes 0 0 7 5 2 1 2 ++ bytes 1 0 6 1 2 1 2) refl refl refl refl;
+      same-layer = refuses-list 2 6 (fileB 2) atSix (refusal 14 0) refl refl refl;
+      first-version = refuses-list 2 6 (fileOfA 1 1 2 corners) atSix (refusal 14 0) refl refl refl;
+      layer-before-list = refuses-call 2 6 (fileB 17) (1 ∷ []) (refusal 20 0) refl refl;
       one-byte-short = refuses-lent 1 3 (fileA 1 1) twoJumpers 3 refl refl refl;
       list-before-16 = refuses-list 1 3 (fileA 1 1) (1 ∷ 13 ∷ 0 ∷ []) (refusal 13 0) refl refl refl;
       stage-first = λ file list. refuses-call 17 3 file list (refusal 1 0) refl refl;

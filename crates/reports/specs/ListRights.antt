@@ -30,60 +30,60 @@ use Rattle.reports.specs.Gathered.{Gathered}
 use Rattle.reports.specs.Gathering.{Named, Added, Joined, Parted, flags-bits, gathered-absent, gathered-joined, gathered-cut}
 use Rattle.reports.specs.ListRight.{ListRight, ListAccepted, GatheredBelow, Roomy, AtMost}
 
-module _ (ns ws list os : List ℕ) (k : ℕ) (j : ListRight ns ws k list os) where
-  pub formed-of : Formed (stageOf ns ws os k)
-  formed-of = formed ns ws os (j .right) k
+module _ (v : ℕ) (ns ws list os : List ℕ) (k : ℕ) (j : ListRight v ns ws k list os) where
+  pub formed-of : Formed (stageOf v ns ws os k)
+  formed-of = formed v ns ws os (j .right) k
 
-  pub inside-of : Inside (stageOf ns ws os k) (setOf list)
-  inside-of = list-set-inside (stageOf ns ws os k) list (j .listed)
+  pub inside-of : Inside (stageOf v ns ws os k) (setOf list)
+  inside-of = list-set-inside (stageOf v ns ws os k) list (j .listed)
 
-  pub free-of : EntriesFree (stageOf ns ws os k) list (entryCount list)
-  free-of = list-free (stageOf ns ws os k) list (j .listed)
+  pub free-of : EntriesFree (stageOf v ns ws os k) list (entryCount list)
+  free-of = list-free (stageOf v ns ws os k) list (j .listed)
 
   pub rising-of : Rising list (entryCount list)
-  rising-of = list-rising (stageOf ns ws os k) list (j .listed)
+  rising-of = list-rising (stageOf v ns ws os k) list (j .listed)
 
-  pub range-of : (i : ℕ) → stageOf ns ws os k .present i ≡ true → (1 ≤ wireLayer ws i) × (wireLayer ws i ≤ mostLayers)
+  pub range-of : (i : ℕ) → stageOf v ns ws os k .present i ≡ true → (1 ≤ wireLayer ws i) × (wireLayer ws i ≤ mostLayers)
   range-of i p =
-      let w = j .right .wire i (present-positive ns ws os k i p) (present-inside ns ws os k i p) in (w .layer-low, w .layer-high)
+      let w = j .right .wire i (present-positive v ns ws os k i p) (present-inside v ns ws os k i p) in (w .layer-low, w .layer-high)
 
-  pub present-is : (i : ℕ) → i < nodeCount ns → stageOf ns ws os k .present i ≡ (ltb 0 i && leb (wireLayer ws i) k)
+  pub present-is : (i : ℕ) → i < nodeCount ns → stageOf v ns ws os k .present i ≡ (ltb 0 i && leb (wireLayer ws i) k)
   unfolding stageOf
   present-is i p = rw (lt-ltb i (nodeCount ns) p)
 
-  flags-of : (i : ℕ) → i < nodeCount ns → nodeFlags ns i ≡ χ (stageOf ns ws os k .gate i) 1 + χ (stageOf ns ws os k .source i) 2
+  flags-of : (i : ℕ) → i < nodeCount ns → nodeFlags ns i ≡ χ (stageOf v ns ws os k .gate i) 1 + χ (stageOf v ns ws os k .source i) 2
   unfolding stageOf
   flags-of i p = flags-bits (nodeFlags ns i) (j .right .flags i p)
 
   -- ---- the entries of a wire
   module _ (i a b : ℕ) (w : OfWire list (entryCount list) i a b) where
-    pub entries-cut : cutAt (stageOf ns ws os k) (setOf list) i ≡ ltb a b
-    entries-cut = of-wire-cut (stageOf ns ws os k) list (entryCount list) free-of rising-of i a b w
+    pub entries-cut : cutAt (stageOf v ns ws os k) (setOf list) i ≡ ltb a b
+    entries-cut = of-wire-cut (stageOf v ns ws os k) list (entryCount list) free-of rising-of i a b w
 
     -- only a present wire has any
-    pub entries-present : a < b → stageOf ns ws os k .present i ≡ true
+    pub entries-present : a < b → stageOf v ns ws os k .present i ≡ true
     entries-present l = rw (w .here a (omega arith) l) at (free-of a (omega (arith, w .inside)) .present)
 
     pub entry-inside : (e : ℕ) → a ≤ e → e < b → (1 ≤ entryPosition list e) × (entryPosition list e < wireLength ns ws i)
     unfolding stageOf
-    entry-inside e p q = position-inside (stageOf ns ws os k) list (entryCount list) free-of rising-of i a b w e p q
+    entry-inside e p q = position-inside (stageOf v ns ws os k) list (entryCount list) free-of rising-of i a b w e p q
 
   -- ---- steps
-  module _ (i : ℕ) (inside : i < nodeCount ns) {lo w f l : List ℕ} (g : Gathered (stageOf ns ws os k) (setOf list) i lo w f l) where
+  module _ (i : ℕ) (inside : i < nodeCount ns) {lo w f l : List ℕ} (g : Gathered (stageOf v ns ws os k) (setOf list) i lo w f l) where
     pub step-absent : {lo′ f′ : List ℕ} (flags : ℕ) → flags ≡ nodeFlags ns i → (ltb 0 i && leb (wireLayer ws i) k) ≡ false →
-        Named lo f lo′ f′ i i flags → Gathered (stageOf ns ws os k) (setOf list) (i + 1) lo′ w f′ l
+        Named lo f lo′ f′ i i flags → Gathered (stageOf v ns ws os k) (setOf list) (i + 1) lo′ w f′ l
     unfolding stageOf
     step-absent flags e z n =
-        let s = stageOf ns ws os k in
+        let s = stageOf v ns ws os k in
         let absent = present-is i inside ∙ z in
         gathered-absent s (setOf list) formed-of inside-of i (range-of i) g flags (e ∙ flags-of i inside) absent
         (sym (lowestNode-stop s (setOf list) formed-of i (absent-apart s (setOf list) i absent))) n
 
     module _ (y : (ltb 0 i && leb (wireLayer ws i) k) ≡ true) where
-      present : stageOf ns ws os k .present i ≡ true
+      present : stageOf v ns ws os k .present i ≡ true
       present = present-is i inside ∙ y
 
-      above-is : getD lo (wireParent ws i) 0 ≡ lowestNode (stageOf ns ws os k) (setOf list) (wireParent ws i)
+      above-is : getD lo (wireParent ws i) 0 ≡ lowestNode (stageOf v ns ws os k) (setOf list) (wireParent ws i)
       unfolding stageOf
       above-is = g .lowests (wireParent ws i) (formed-of .below i present)
 
@@ -91,25 +91,25 @@ module _ (ns ws list os : List ℕ) (k : ℕ) (j : ListRight ns ws k list os) wh
       unfolding stageOf
       above-inside =
           let p = formed-of .below i present in
-          let q = lowestNode-≤ (stageOf ns ws os k) (setOf list) formed-of (wireParent ws i) in
+          let q = lowestNode-≤ (stageOf v ns ws os k) (setOf list) formed-of (wireParent ws i) in
           let r = above-is in
           omega arith
 
       module _ (a b : ℕ) (entries : OfWire list (entryCount list) i a b) {lo′ w′ f′ l′ : List ℕ} where
-        pub step-joined : a ≡ b → Joined ns ws i lo w f l lo′ w′ f′ l′ → Gathered (stageOf ns ws os k) (setOf list) (i + 1) lo′ w′ f′ l′
+        pub step-joined : a ≡ b → Joined ns ws i lo w f l lo′ w′ f′ l′ → Gathered (stageOf v ns ws os k) (setOf list) (i + 1) lo′ w′ f′ l′
         unfolding stageOf
         step-joined e d =
-            let s = stageOf ns ws os k in
+            let s = stageOf v ns ws os k in
             let uncut : cutAt s (setOf list) i ≡ false = entries-cut i a b entries ∙ le-ltb a b (omega arith) in
             gathered-joined s (setOf list) formed-of inside-of i (range-of i) g (getD lo (wireParent ws i) 0)
             (above-is ∙ sym (lowestNode-up s (setOf list) formed-of i (joins-yes s (setOf list) i present uncut)))
             (nodeFlags ns i) (flags-of i inside) present uncut (d .named) (d .added)
 
         pub step-cut : a < b → Parted ns ws i (entryPosition list a) (entryPosition list (b - 1)) lo w f l lo′ w′ f′ l′ →
-            Gathered (stageOf ns ws os k) (setOf list) (i + 1) lo′ w′ f′ l′
+            Gathered (stageOf v ns ws os k) (setOf list) (i + 1) lo′ w′ f′ l′
         unfolding stageOf
         step-cut e d =
-            let s = stageOf ns ws os k in
+            let s = stageOf v ns ws os k in
             let cut : cutAt s (setOf list) i ≡ true = entries-cut i a b entries ∙ lt-ltb a b e in
             gathered-cut s (setOf list) formed-of inside-of i (range-of i) g {w₁ = d .w₁} {l₁ = d .l₁} (entryPosition list a) (entryPosition list (b - 1))
             (getD lo (wireParent ws i) 0) (nodeFlags ns i)
@@ -134,10 +134,10 @@ pub record WireReady (ns ws : List ℕ) (i : ℕ) (lo w f l : List ℕ) : Type 0
 
 module _ (ns ws list : List ℕ) (k : ℕ) (accepted : ListAccepted ns ws k list) (i : ℕ) (h : i < nodeCount ns) where
   pub stored-of : wireBytes * i ≤ length ws
-  stored-of = omega (arith, accepted .1 .right .sized .wires-length)
+  stored-of = omega (arith, accepted .2 .right .sized .wires-length)
 
   pub node-small : i < mostNodes
-  node-small = omega (arith, accepted .1 .right .sized .few-nodes)
+  node-small = omega (arith, accepted .2 .right .sized .few-nodes)
 
   module _ (a b : ℕ) (w : OfWire list (entryCount list) i a b) where
     -- an absent wire has no entries
@@ -146,14 +146,15 @@ module _ (ns ws list : List ℕ) (k : ℕ) (accepted : ListAccepted ns ws k list
         by (ltb a b)
         (λ y.
         absurd
-        (no-both (entries-present ns ws list (accepted .0) k (accepted .1) i a b w (ltb-true a b y)) (present-is ns ws list (accepted .0) k (accepted .1) i h ∙ z)))
+        (no-both (entries-present (accepted .0) ns ws list (accepted .1) k (accepted .2) i a b w (ltb-true a b y)) (present-is (accepted .0) ns ws list (accepted .1) k (accepted .2) i h ∙ z)))
         (λ n. ltb-false a b n)
 
   pub wire-ready : {lo w f l : List ℕ} → Roomy (nodeCount ns) lo w f l → AtMost (i * (2 * wireWeightBound)) w → GatheredBelow ns ws k list i lo w f l →
       (ltb 0 i && leb (wireLayer ws i) k) ≡ true → WireReady ns ws i lo w f l
   wire-ready room light g y =
-      let os = accepted .0 in
-      let j = accepted .1 in
+      let v = accepted .0 in
+      let os = accepted .1 in
+      let j = accepted .2 in
       let n = ltb-true 0 i (and-left (ltb 0 i) (leb (wireLayer ws i) k) y) in
       let r = j .right .wire i n h in
       record {
@@ -164,7 +165,7 @@ module _ (ns ws list : List ℕ) (k : ℕ) (accepted : ListAccepted ns ws k list
         below = r .below;
         low = r .layer-low;
         high = r .layer-high;
-        above = above-inside ns ws list os k j i h (g os j) y;
+        above = above-inside v ns ws list os k j i h (g v os j) y;
         room = record { lowests = omega (arith, room .lowests); weights = omega (arith, room .weights); flagged = omega (arith, room .flagged); layered = omega (arith, room .layered) };
         light = light;
       }
@@ -200,8 +201,9 @@ pub record WireEntries (ws : List ℕ) (k : ℕ) (list : List ℕ) (i a b : ℕ)
 pub wire-entries : (ns ws list : List ℕ) (k : ℕ) → ListAccepted ns ws k list → (i : ℕ) → i < nodeCount ns → (a b : ℕ) →
     OfWire list (entryCount list) i a b → WireEntries ws k list i a b
 wire-entries ns ws list k accepted i h a b w =
-    let os = accepted .0 in
-    let j = accepted .1 in
+    let v = accepted .0 in
+    let os = accepted .1 in
+    let j = accepted .2 in
     record {
       stored = stored-of ns ws list k accepted i h;
       small = node-small ns ws list k accepted i h;
@@ -212,6 +214,6 @@ wire-entries ns ws list k accepted i h a b w =
       high = λ p. j .right .wire i p h .layer-high;
       rise = λ d p q.
           let r =
-          positions-rise (stageOf ns ws os k) list (entryCount list) (free-of ns ws list os k j) (rising-of ns ws list os k j) i a b w d (d + 1) p (omega arith) q in
+          positions-rise (stageOf v ns ws os k) list (entryCount list) (free-of v ns ws list os k j) (rising-of v ns ws list os k j) i a b w d (d + 1) p (omega arith) q in
           omega arith;
     }

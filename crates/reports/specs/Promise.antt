@@ -21,7 +21,7 @@ pieceCount s list = length (pieceNames s (setOf list))
 unfoldable pub piecesBuffer : Stage → ℕ → List ℕ → List ℕ → List ℕ
 piecesBuffer s limit list out = reportOf s limit (setOf list) ++ drop (recordBytes * pieceCount s list) out
 
--- report: 1 and 2 to 11, 12 to 14, 16
+-- report: 1, 2 to 11 and 20, 12 to 14, 16
 unfoldable pub reportRefusal : ℕ → List ℕ → List ℕ → ℕ → Refusal
 reportRefusal stage file list lent =
     orElse (callRefusal stage file)

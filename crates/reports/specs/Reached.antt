@@ -27,21 +27,21 @@ module _ (ns ws list : List ℕ) (k : ℕ) (accepted : ListAccepted ns ws k list
   pub reached-wire : (i e end : ℕ) → Reached list i e → e ≤ end → end ≤ entryCount list → ((d : ℕ) → e ≤ d → d < end → entryWire list d ≡ i) →
       (end < entryCount list → entryWire list end ≡ i → ⊥) → OfWire list (entryCount list) i e end
   reached-wire i e end r p q here other =
-      of-wire list (entryCount list) (rising-of ns ws list (accepted .0) k (accepted .1)) i e end p q (r .before) here
+      of-wire list (entryCount list) (rising-of (accepted .0) ns ws list (accepted .1) k (accepted .2)) i e end p q (r .before) here
       (λ l. let a = other l in let b = r .behind end p l in omega arith)
 
   pub reached-next : (i e end : ℕ) → OfWire list (entryCount list) i e end → Reached list (i + 1) end
   reached-next i e end w =
       record {
         inside = w .inside;
-        before = of-wire-next list (entryCount list) (rising-of ns ws list (accepted .0) k (accepted .1)) i e end w;
+        before = of-wire-next list (entryCount list) (rising-of (accepted .0) ns ws list (accepted .1) k (accepted .2)) i e end w;
         behind = λ d p q. let a = w .behind d p q in omega arith;
       }
 
 -- before the first wire nothing is gathered
 pub gathered-none : (ns ws list : List ℕ) (k : ℕ) (lo w f l : List ℕ) → AtMost 0 w → AtMost 0 f → AtMost 0 l → GatheredBelow ns ws k list 0 lo w f l
 unfolding weightBelow flagsBelow layersBelow sum any
-gathered-none ns ws list k lo w f l a b c os j =
+gathered-none ns ws list k lo w f l a b c v os j =
     record {
       lowests = λ j p. absurd (native.Mathlib.Nat.lt-irrefl 0 (omega arith));
       weights = λ h. let x = a h in omega arith;

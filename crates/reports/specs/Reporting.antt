@@ -42,7 +42,7 @@ module _ (stage : ℕ) (file list : List ℕ) (limit : ℕ) (out : List ℕ) whe
   abbrev needed : ℕ
   needed = recordBytes * pieceCount s list
 
-  -- 1 and 2 to 11
+  -- 1, 2 to 11 and 20
   module _ (h : met (callRefusal stage file) ≡ true) where
     call-first : reportRefusal stage file list (length out) ≡ callRefusal stage file
     unfolding reportRefusal

@@ -19,25 +19,25 @@ use Rattle.pieces.specs.Name.{Name, named}
 use Rattle.pieces.specs.Report.{recordOf}
 use Rattle.reports.specs.ListRights.{product-small}
 
-module _ (ns ws os : List ℕ) (right : NetRight ns ws os) (nodes : Bytes ns) (wires : Bytes ws) (k : ℕ) (P : Group) where
+module _ (v : ℕ) (ns ws os : List ℕ) (right : NetRight v ns ws os) (nodes : Bytes ns) (wires : Bytes ws) (k : ℕ) (P : Group) where
   wire-fits : (i : ℕ) →
-      χ (stageOf ns ws os k .present i) (sum (wireLength ns ws i) (λ t. χ (P (step i (suc t))) (wireFactor ws i))) < wireWeightBound
+      χ (stageOf v ns ws os k .present i) (sum (wireLength ns ws i) (λ t. χ (P (step i (suc t))) (wireFactor ws i))) < wireWeightBound
   wire-fits i =
-      by (stageOf ns ws os k .present i)
+      by (stageOf v ns ws os k .present i)
       (λ y.
-      let checked = checked-of right i (present-positive ns ws os k i y) (present-inside ns ws os k i y) in
+      let checked = checked-of right i (present-positive v ns ws os k i y) (present-inside v ns ws os k i y) in
       let len = length-small ns ws i nodes checked in
       let factor : wireFactor ws i < factorBound = omega (arith, wires (wireBytes * (i - 1) + 2)) in
       let most = sum-bound (wireLength ns ws i) (wireFactor ws i) {f = λ t. χ (P (step i (suc t))) (wireFactor ws i)} (λ t p. χ-≤ (P (step i (suc t))) (wireFactor ws i)) in
       rw y (omega (arith, product-small (wireLength ns ws i) (wireFactor ws i) len factor)))
       (λ z. rw z (omega arith))
 
-  pub weight-fits : weightOf (stageOf ns ws os k) P < 2 ^ 32
+  pub weight-fits : weightOf (stageOf v ns ws os k) P < 2 ^ 32
   unfolding weightOf stageOf
   weight-fits =
       let most =
       sum-bound (nodeCount ns) (wireWeightBound - 1)
-      {f = λ i. χ (stageOf ns ws os k .present i) (sum (wireLength ns ws i) (λ t. χ (P (step i (suc t))) (wireFactor ws i)))} (λ i p. let one = wire-fits i in omega arith) in
+      {f = λ i. χ (stageOf v ns ws os k .present i) (sum (wireLength ns ws i) (λ t. χ (P (step i (suc t))) (wireFactor ws i)))} (λ i p. let one = wire-fits i in omega arith) in
       omega (arith, right .sized .few-nodes)
 
 -- so the weight field of a record is the weight of its piece

@@ -121,27 +121,27 @@ module _ (s : Stage) (limit : ℕ) (J : Points) where
       names k = nodeNames s J k ++ stretchNames s J k
 
 -- ---- the bytes of a node and its wire
-module _ (ns ws list os : List ℕ) (k : ℕ) (j : ListRight ns ws k list os) (limit : ℕ) where
-  node-bytes : {lo w f l : List ℕ} → Gathered (stageOf ns ws os k) (setOf list) (nodeCount ns) lo w f l → (i : ℕ) → i < nodeCount ns →
-      nodeFields limit lo w f l i ≡ flatMap (recordOf (stageOf ns ws os k) limit (setOf list)) (nodeNames (stageOf ns ws os k) (setOf list) i)
+module _ (v : ℕ) (ns ws list os : List ℕ) (k : ℕ) (j : ListRight v ns ws k list os) (limit : ℕ) where
+  node-bytes : {lo w f l : List ℕ} → Gathered (stageOf v ns ws os k) (setOf list) (nodeCount ns) lo w f l → (i : ℕ) → i < nodeCount ns →
+      nodeFields limit lo w f l i ≡ flatMap (recordOf (stageOf v ns ws os k) limit (setOf list)) (nodeNames (stageOf v ns ws os k) (setOf list) i)
   unfolding nodeFields nodeNames flatMap stageOf
   node-bytes g i p =
-      let s = stageOf ns ws os k in
+      let s = stageOf v ns ws os k in
       rw (g .lowests i p, g .weights i, g .flagged i, g .layered i)
       (by (eqb (lowestNode s (setOf list) i) i)
-      (λ y. rw y (sym (append-nil _ ∙ node-record s (setOf list) (inside-of ns ws list os k j) i limit)))
+      (λ y. rw y (sym (append-nil _ ∙ node-record s (setOf list) (inside-of v ns ws list os k j) i limit)))
       (λ z. rw z))
 
   stretch-bytes : (i a b : ℕ) → OfWire list (entryCount list) i a b →
       stretchesFields list i (wireFactor ws i) (wireLayer ws i) a (b - a - 1)
-      ≡ flatMap (recordOf (stageOf ns ws os k) limit (setOf list)) (stretchNames (stageOf ns ws os k) (setOf list) i)
+      ≡ flatMap (recordOf (stageOf v ns ws os k) limit (setOf list)) (stretchNames (stageOf v ns ws os k) (setOf list) i)
   unfolding stretchesFields stretchFields stageOf
   stretch-bytes i a b w =
-      let s = stageOf ns ws os k in
+      let s = stageOf v ns ws os k in
       let J = setOf list in
       let n = entryCount list in
-      let free = free-of ns ws list os k j in
-      let rising = rising-of ns ws list os k j in
+      let free = free-of v ns ws list os k j in
+      let rising = rising-of v ns ws list os k j in
       rw (stretch-names-are s list n free rising i a b w)
       (sym
       (flat-gather (recordOf s limit J) (λ d. name i (entryPosition list (a + d))) (b - a - 1)
@@ -150,21 +150,21 @@ module _ (ns ws list os : List ℕ) (k : ℕ) (j : ListRight ns ws k list os) (l
       {g = λ d. fields i (entryPosition list (a + d)) ((entryPosition list (a + d + 1) - entryPosition list (a + d)) * wireFactor ws i) 0 (2 ^ (wireLayer ws i - 1))}
       (λ d l.
       let here : a + d + 1 < b = omega arith in
-      let present = entries-present ns ws list os k j i a b w (omega arith) in
-      let range = range-of ns ws list os k j i present in
-      stretch-record s J (formed-of ns ws list os k j) (inside-of ns ws list os k j) i (entryPosition list (a + d)) (entryPosition list (a + d + 1)) present
+      let present = entries-present v ns ws list os k j i a b w (omega arith) in
+      let range = range-of v ns ws list os k j i present in
+      stretch-record s J (formed-of v ns ws list os k j) (inside-of v ns ws list os k j) i (entryPosition list (a + d)) (entryPosition list (a + d + 1)) present
       (entry-jumper s list n free rising i a b w (a + d) (omega arith) (omega arith))
       (entry-jumper s list n free rising i a b w (a + d + 1) (omega arith) here)
       (positions-rise s list n free rising i a b w (a + d) (a + d + 1) (omega arith) (omega arith) here)
       (λ t p q. none-between s list n free rising i a b w (a + d) t (omega arith) here p q)
       limit (range .0) (range .1))))
 
-  pub wire-bytes : {lo w f l : List ℕ} → Gathered (stageOf ns ws os k) (setOf list) (nodeCount ns) lo w f l → (i a b : ℕ) → i < nodeCount ns →
+  pub wire-bytes : {lo w f l : List ℕ} → Gathered (stageOf v ns ws os k) (setOf list) (nodeCount ns) lo w f l → (i a b : ℕ) → i < nodeCount ns →
       OfWire list (entryCount list) i a b →
-      recordsBelow (stageOf ns ws os k) limit (setOf list) (i + 1)
-      ≡ recordsBelow (stageOf ns ws os k) limit (setOf list) i
+      recordsBelow (stageOf v ns ws os k) limit (setOf list) (i + 1)
+      ≡ recordsBelow (stageOf v ns ws os k) limit (setOf list) i
       ++ (nodeFields limit lo w f l i ++ stretchesFields list i (wireFactor ws i) (wireLayer ws i) a (b - a - 1))
-  wire-bytes g i a b p e = rw (node-bytes g i p, stretch-bytes i a b e) (records-more (stageOf ns ws os k) limit (setOf list) i)
+  wire-bytes g i a b p e = rw (node-bytes g i p, stretch-bytes i a b e) (records-more (stageOf v ns ws os k) limit (setOf list) i)
 
 -- ---- what the writers leave
 module _ (limit : ℕ) (lowest weight flags layers : List ℕ) (i : ℕ) where
@@ -222,20 +222,20 @@ placed-twice q n s out₀ out out₁ out₂ at behind ae oe e₁ be e₂ h =
     e₂ ∙ rw (one, here, ← append-assoc q n s) (place-more 0 (q ++ n) s out₀ (omega arith))
 
 -- a node and its wire more
-module _ (ns ws list os : List ℕ) (k : ℕ) (j : ListRight ns ws k list os) (limit : ℕ) {lo w f l : List ℕ}
-    (g : Gathered (stageOf ns ws os k) (setOf list) (nodeCount ns) lo w f l) (i a b : ℕ) (p : i < nodeCount ns) (entries : OfWire list (entryCount list) i a b)
+module _ (v : ℕ) (ns ws list os : List ℕ) (k : ℕ) (j : ListRight v ns ws k list os) (limit : ℕ) {lo w f l : List ℕ}
+    (g : Gathered (stageOf v ns ws os k) (setOf list) (nodeCount ns) lo w f l) (i a b : ℕ) (p : i < nodeCount ns) (entries : OfWire list (entryCount list) i a b)
   where
     -- their bytes have room
-    pub wire-room : (out : List ℕ) (at : ℕ) → at ≡ length (recordsBelow (stageOf ns ws os k) limit (setOf list) i) →
-        recordBytes * pieceCount (stageOf ns ws os k) list ≤ length out →
+    pub wire-room : (out : List ℕ) (at : ℕ) → at ≡ length (recordsBelow (stageOf v ns ws os k) limit (setOf list) i) →
+        recordBytes * pieceCount (stageOf v ns ws os k) list ≤ length out →
         at + length (nodeFields limit lo w f l i) + recordBytes * (b - a - 1) ≤ length out
     unfolding stageOf
     wire-room out at e h =
-        let s = stageOf ns ws os k in
+        let s = stageOf v ns ws os k in
         let q = recordsBelow s limit (setOf list) i in
         let n = nodeFields limit lo w f l i in
         let t = stretchesFields list i (wireFactor ws i) (wireLayer ws i) a (b - a - 1) in
-        let x = ap length (wire-bytes ns ws list os k j limit g i a b p entries) in
+        let x = ap length (wire-bytes v ns ws list os k j limit g i a b p entries) in
         let y = records-short s limit (setOf list) (i + 1) (omega arith) in
         let c = length-append q (n ++ t) in
         let d = length-append n t in
@@ -243,21 +243,21 @@ module _ (ns ws list os : List ℕ) (k : ℕ) (j : ListRight ns ws k list os) (l
         omega arith
 
     pub wire-placed : (out₀ out out₁ out₂ : List ℕ) (at behind next : ℕ) →
-        at ≡ length (recordsBelow (stageOf ns ws os k) limit (setOf list) i) →
-        out ≡ place 0 (recordsBelow (stageOf ns ws os k) limit (setOf list) i) out₀ →
-        recordBytes * pieceCount (stageOf ns ws os k) list ≤ length out₀ →
+        at ≡ length (recordsBelow (stageOf v ns ws os k) limit (setOf list) i) →
+        out ≡ place 0 (recordsBelow (stageOf v ns ws os k) limit (setOf list) i) out₀ →
+        recordBytes * pieceCount (stageOf v ns ws os k) list ≤ length out₀ →
         behind ≡ at + length (nodeFields limit lo w f l i) → out₁ ≡ place at (nodeFields limit lo w f l i) out →
         next ≡ behind + recordBytes * (b - a - 1) →
         out₂ ≡ place behind (stretchesFields list i (wireFactor ws i) (wireLayer ws i) a (b - a - 1)) out₁ →
-        (next ≡ length (recordsBelow (stageOf ns ws os k) limit (setOf list) (i + 1)))
-        × (out₂ ≡ place 0 (recordsBelow (stageOf ns ws os k) limit (setOf list) (i + 1)) out₀)
+        (next ≡ length (recordsBelow (stageOf v ns ws os k) limit (setOf list) (i + 1)))
+        × (out₂ ≡ place 0 (recordsBelow (stageOf v ns ws os k) limit (setOf list) (i + 1)) out₀)
     unfolding stageOf
     wire-placed out₀ out out₁ out₂ at behind next ae oe room be e₁ ne e₂ =
-        let s = stageOf ns ws os k in
+        let s = stageOf v ns ws os k in
         let q = recordsBelow s limit (setOf list) i in
         let n = nodeFields limit lo w f l i in
         let t = stretchesFields list i (wireFactor ws i) (wireLayer ws i) a (b - a - 1) in
-        let r = wire-bytes ns ws list os k j limit g i a b p entries in
+        let r = wire-bytes v ns ws list os k j limit g i a b p entries in
         let x = ap length r in
         let y = records-short s limit (setOf list) (i + 1) (omega arith) in
         let c = length-append q (n ++ t) in

@@ -35,7 +35,7 @@ fn present_count(stage: u8, wires: &[u8], n: usize) -> usize
 // The number of pieces.
 pub fn piece_count(stage: u8, nodes: &[u8], wires: &[u8], jumpers: &[u8]) -> usize
     requires { ⌜ ListAccepted (now nodes) (now wires) stage (now jumpers) ⌝ }
-    ensures { λ r. ⌜ ((os : List ℕ) → ListRight (now (nodes .entry)) (now (wires .entry)) stage (now (jumpers .entry)) os → r ≡ pieceCount (stageOf (now (nodes .entry)) (now (wires .entry)) os stage) (now (jumpers .entry)))
+    ensures { λ r. ⌜ ((v : ℕ) (os : List ℕ) → ListRight v (now (nodes .entry)) (now (wires .entry)) stage (now (jumpers .entry)) os → r ≡ pieceCount (stageOf v (now (nodes .entry)) (now (wires .entry)) os stage) (now (jumpers .entry)))
         × (r ≤ mostNodes * (lengthBound + 1)) ⌝ }
 {
     let n = node_count(nodes);

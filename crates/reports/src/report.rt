@@ -19,7 +19,7 @@ ghost use Rattle.net.specs.Stage.{stageOf};
 ghost use Rattle.reports.specs.Promise.{piecesBuffer, reportAnswer, reportBuffer};
 ghost use Rattle.reports.specs.ListRight.{ListRight, ListAccepted, RecordsFit};
 
-// What is tried, in order: 1 and 2 to 11, 12 to 14, 16; then the records are written.
+// What is tried, in order: 1, 2 to 11 and 20, 12 to 14, 16; then the records are written.
 pub fn report(stage: u32, limit: u32, file: &[u8], jumpers: &[u8], out: &mut [u8]) -> Answer
     ensures { λ a. ⌜ (a ≡ reportAnswer stage (now (file .entry)) (now (jumpers .entry)) (length (now (out .entry))))
         × (now (out .exit) ≡ reportBuffer stage limit (now (file .entry)) (now (jumpers .entry)) (now (out .entry))) ⌝ }
@@ -31,7 +31,14 @@ pub fn report(stage: u32, limit: u32, file: &[u8], jumpers: &[u8], out: &mut [u8
     let k = stage as u8;
     let nodes = sections::nodes(file);
     let wires = sections::wires(file);
-    let of_list = list_refusal(k, nodes, wires, sections::obstacles(file), jumpers);
+    let of_list = list_refusal(
+        sections::version(file),
+        k,
+        nodes,
+        wires,
+        sections::obstacles(file),
+        jumpers,
+    );
     if of_list.number != 0 {
         return answered(of_list, 0);
     }
@@ -55,8 +62,8 @@ pub fn write_pieces(
 )
     requires { ⌜ ListAccepted (now nodes) (now wires) stage (now jumpers) ⌝ }
     requires { ⌜ RecordsFit (now nodes) (now wires) stage (now jumpers) (now out) ⌝ }
-    ensures { λ r. ⌜ ((os : List ℕ) → ListRight (now (nodes .entry)) (now (wires .entry)) stage (now (jumpers .entry)) os →
-        now (out .exit) ≡ piecesBuffer (stageOf (now (nodes .entry)) (now (wires .entry)) os stage) limit (now (jumpers .entry)) (now (out .entry))) ⌝ }
+    ensures { λ r. ⌜ ((v : ℕ) (os : List ℕ) → ListRight v (now (nodes .entry)) (now (wires .entry)) stage (now (jumpers .entry)) os →
+        now (out .exit) ≡ piecesBuffer (stageOf v (now (nodes .entry)) (now (wires .entry)) os stage) limit (now (jumpers .entry)) (now (out .entry))) ⌝ }
 {
     let mut lowest = [0usize; MOST_NODES];
     let mut weight = [0u64; MOST_NODES];

@@ -152,8 +152,8 @@ pub fn write_records(
     requires { ⌜ Roomy (nodeCount (now nodes)) (now lowest) (now weight) (now flags) (now layers) ⌝ }
     requires { ⌜ GatheredBelow (now nodes) (now wires) stage (now jumpers) (nodeCount (now nodes)) (now lowest) (now weight) (now flags) (now layers) ⌝ }
     requires { ⌜ RecordsFit (now nodes) (now wires) stage (now jumpers) (now out) ⌝ }
-    ensures { λ r. ⌜ ((os : List ℕ) → ListRight (now (nodes .entry)) (now (wires .entry)) stage (now (jumpers .entry)) os →
-        now (out .exit) ≡ place 0 (reportOf (stageOf (now (nodes .entry)) (now (wires .entry)) os stage) limit (setOf (now (jumpers .entry)))) (now (out .entry))) ⌝ }
+    ensures { λ r. ⌜ ((v : ℕ) (os : List ℕ) → ListRight v (now (nodes .entry)) (now (wires .entry)) stage (now (jumpers .entry)) os →
+        now (out .exit) ≡ place 0 (reportOf (stageOf v (now (nodes .entry)) (now (wires .entry)) os stage) limit (setOf (now (jumpers .entry)))) (now (out .entry))) ⌝ }
 {
     let count = node_count(nodes);
     let mut at = 0;

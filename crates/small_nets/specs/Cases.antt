@@ -29,7 +29,7 @@ abbrev pub wiresA : ℕ → List ℕ
 wiresA layer = 0 ∷ layer ∷ 1 ∷ []
 
 abbrev pub netA : ℕ → ℕ → List ℕ → Stage
-netA flags layer obstacles = stageOf (nodesA flags) (wiresA layer) obstacles 1
+netA flags layer obstacles = stageOf 1 (nodesA flags) (wiresA layer) obstacles 1
 
 -- an obstacle from x1,0 to x2,0
 abbrev pub bar : ℕ → ℕ → List ℕ
@@ -48,7 +48,7 @@ abbrev pub wiresJ : List ℕ
 wiresJ = 0 ∷ 1 ∷ 1 ∷ 1 ∷ 1 ∷ 1 ∷ 1 ∷ 1 ∷ 3 ∷ 1 ∷ 1 ∷ 3 ∷ []
 
 abbrev pub J : Stage
-J = stageOf nodesJ wiresJ [] 1
+J = stageOf 1 nodesJ wiresJ [] 1
 
 -- net C: nodes at x = 0, 4, 8, 12, y = 0, a chain, node 0 a gate, factor 1, one obstacle 0,0 to 12,0
 abbrev pub nodesC : List ℕ
@@ -59,7 +59,7 @@ abbrev pub wiresC : List ℕ
 wiresC = 0 ∷ 1 ∷ 1 ∷ 1 ∷ 1 ∷ 1 ∷ 2 ∷ 1 ∷ 1 ∷ []
 
 abbrev pub C : Stage
-C = stageOf nodesC wiresC (bar 0 12) 1
+C = stageOf 1 nodesC wiresC (bar 0 12) 1
 
 -- position t of wire 1
 abbrev pub at : ℕ → Points

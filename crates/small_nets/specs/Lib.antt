@@ -1,3 +1,4 @@
 pub mod Cases
 pub mod Decide
 pub mod Shown
+pub mod Layered

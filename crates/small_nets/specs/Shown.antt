@@ -94,8 +94,8 @@ none-A os limit is-formed heavy apart K legal =
     s = netA 1 1 os
 
 -- every net of the table is accepted
-formed-A : (flags layer : ℕ) (os : List ℕ) → netRefusal (nodesA flags) (wiresA layer) os ≡ none → Formed (netA flags layer os)
-formed-A flags layer os h = formed (nodesA flags) (wiresA layer) os (net-right (nodesA flags) (wiresA layer) os h) 1
+formed-A : (flags layer : ℕ) (os : List ℕ) → netRefusal 1 (nodesA flags) (wiresA layer) os ≡ none → Formed (netA flags layer os)
+formed-A flags layer os h = formed 1 (nodesA flags) (wiresA layer) os (net-right 1 (nodesA flags) (wiresA layer) os h) 1
 
 pub small-nets : SmallNets
 unfolding netRefusal sectionsRefusal nodeRefusal wireRefusal obstacleRefusal firstOf somewhere freeAt barred pointX pointY holds harms harmfulAt any stageOf lowestNode follow joins cutAt nodeWeight wireAdds firstJumper lastJumper lowest highest wireLength sum size
@@ -105,8 +105,8 @@ small-nets =
     let sixth-formed : Formed (netA 1 1 (bar 6 7)) = formed-A 1 1 (bar 6 7) refl in
     let low-formed : Formed (netA 1 1 (bar 1 6)) = formed-A 1 1 (bar 1 6) refl in
     let plain-formed : Formed (netA 0 1 []) = formed-A 0 1 [] refl in
-    let J-formed : Formed J = formed nodesJ wiresJ [] (net-right nodesJ wiresJ [] refl) 1 in
-    let C-formed : Formed C = formed nodesC wiresC (bar 0 12) (net-right nodesC wiresC (bar 0 12) refl) 1 in
+    let J-formed : Formed J = formed 1 nodesJ wiresJ [] (net-right 1 nodesJ wiresJ [] refl) 1 in
+    let C-formed : Formed C = formed 1 nodesC wiresC (bar 0 12) (net-right 1 nodesC wiresC (bar 0 12) refl) 1 in
     record {
       a-13 = least-0 A A-formed 13 refl refl;
       a-12 = least-1 A A-formed 12 1 6 refl refl refl refl;

@@ -2,9 +2,21 @@
 //! With a folder, inputs that meet an answer not met before are stored there.
 
 use antenna_tests::random::Random;
-use antenna_tests::suite::fuzz::{mutate, one, seed};
+use antenna_tests::suite::fuzz::{mutate, one, seed, Made};
 use std::collections::HashMap;
 use std::time::{Duration, Instant};
+
+/// The kind of an answer: call, number, version if it is not 1, and something of place and count.
+fn name(made: &Made) -> String {
+    let (call, answer) = (made.call, made.answer);
+    let version = match made.version {
+        1 => "",
+        2 => "version-2-",
+        _ => "version-other-",
+    };
+    let place = answer.place.min(3) + 4 * answer.count.min(3);
+    format!("{call}-{}-{version}{place}", answer.number)
+}
 
 fn main() {
     let mut words = std::env::args().skip(1);
@@ -13,7 +25,7 @@ fn main() {
     let end = Instant::now() + Duration::from_secs(seconds);
     let start = std::time::SystemTime::UNIX_EPOCH.elapsed().unwrap();
     let mut random = Random::new(start.as_nanos() as u64);
-    let mut met: HashMap<(u8, u32, u64), u64> = HashMap::new();
+    let mut met: HashMap<String, u64> = HashMap::new();
     let mut pool: Vec<Vec<u8>> = Vec::new();
     let mut executions = 0u64;
     while Instant::now() < end {
@@ -27,20 +39,19 @@ fn main() {
         }
         let kept = input.clone();
         let ran = std::panic::catch_unwind(|| one(&kept));
-        let Ok((call, answer)) = ran else {
+        let Ok(made) = ran else {
             let name = format!("fuzz-{executions}.input");
             std::fs::write(&name, &input).unwrap();
             eprintln!("a difference; the input is in {name}");
             std::process::exit(1);
         };
         executions += 1;
-        let place = answer.place.min(3) + 4 * answer.count.min(3);
-        let times = met.entry((call, answer.number, place)).or_insert(0);
+        let name = name(&made);
+        let times = met.entry(name.clone()).or_insert(0);
         *times += 1;
         if *times == 1 || random.chance(1, 1000) {
             if let (Some(folder), 1) = (&folder, *times) {
-                let name = format!("{folder}/{call}-{}-{place}", answer.number);
-                std::fs::write(name, &input).unwrap();
+                std::fs::write(format!("{folder}/{name}"), &input).unwrap();
             }
             if pool.len() < 2000 {
                 pool.push(input);

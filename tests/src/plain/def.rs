@@ -302,7 +302,7 @@ impl<'a> Route<'a> {
         }
         let nodes = nodes[..self.count].as_flattened();
         let wires = wires[1..self.count].as_flattened();
-        let answer = write(nodes, wires, obstacles, out);
+        let answer = write(1, nodes, wires, obstacles, out);
         if answer.number != 0 {
             return answer;
         }

@@ -2,12 +2,18 @@
 
 use crate::Answer;
 
-/// The records of a net that is accepted, where they stand in the file.
+/// The records of a net that is accepted, where they stand in the file. An obstacle has `WIDTH` bytes: eight, or nine with its layer.
 #[derive(Clone, Copy)]
-pub struct Net<'a> {
+pub struct Net<'a, const WIDTH: usize> {
     pub nodes: &'a [[u8; 5]],
     pub wires: &'a [[u8; 3]],
-    pub obstacles: &'a [[u8; 8]],
+    pub obstacles: &'a [[u8; WIDTH]],
+}
+
+/// A net of either version.
+pub enum Versioned<'a> {
+    One(Net<'a, 8>),
+    Two(Net<'a, 9>),
 }
 
 /// A wire: its record, and the line from its node to its parent.
@@ -27,11 +33,16 @@ fn place(&[x0, x1, y0, y1, _]: &[u8; 5]) -> (u16, u16) {
     (u16::from_le_bytes([x0, x1]), u16::from_le_bytes([y0, y1]))
 }
 
-fn corners(&[a, b, c, d, e, f, g, h]: &[u8; 8]) -> [u16; 4] {
-    [[a, b], [c, d], [e, f], [g, h]].map(u16::from_le_bytes)
+fn corners<const WIDTH: usize>(obstacle: &[u8; WIDTH]) -> [u16; 4] {
+    [0, 2, 4, 6].map(|k| u16::from_le_bytes([obstacle[k], obstacle[k + 1]]))
 }
 
-impl Net<'_> {
+/// The layer, if the obstacle has one.
+fn layer<const WIDTH: usize>(obstacle: &[u8; WIDTH]) -> Option<u8> {
+    obstacle.get(8).copied()
+}
+
+impl<const WIDTH: usize> Net<'_, WIDTH> {
     pub fn count(&self) -> usize {
         self.nodes.len()
     }
@@ -61,12 +72,16 @@ impl Net<'_> {
         }
     }
 
-    /// The first obstacle that holds position t of a wire.
+    /// The first obstacle that holds position t of a wire and counts for it.
     fn holding(&self, wire: &Wire, t: u32) -> Option<[u16; 4]> {
         let x = (wire.x + wire.dx * t as i32) as u16;
         let y = (wire.y + wire.dy * t as i32) as u16;
-        let mut obstacles = self.obstacles.iter().map(corners);
-        obstacles.find(|&[x1, y1, x2, y2]| x1 <= x && x <= x2 && y1 <= y && y <= y2)
+        let holds = |obstacle: &&[u8; WIDTH]| {
+            let [x1, y1, x2, y2] = corners(obstacle);
+            let counts = layer(obstacle).is_none_or(|layer| wire.layer <= layer);
+            x1 <= x && x <= x2 && y1 <= y && y <= y2 && counts
+        };
+        self.obstacles.iter().find(holds).map(corners)
     }
 
     pub fn barred(&self, wire: &Wire, t: u32) -> bool {
@@ -111,14 +126,14 @@ impl Net<'_> {
     }
 }
 
-/// The three sections, after refusals 2 and 3.
-fn sections(file: &[u8]) -> Result<[&[u8]; 3], Answer> {
+/// The version and the three sections, after refusals 2 and 3.
+fn sections(file: &[u8]) -> Result<(u8, [&[u8]; 3]), Answer> {
     let Some((head, rest)) = file.split_first_chunk::<28>() else {
         return Err(Answer::refused(2, 0));
     };
-    if head[..4] != [1, 0, 3, 0] {
+    let [version @ (1 | 2), 0, 3, 0, ..] = *head else {
         return Err(Answer::refused(2, 0));
-    }
+    };
     let (numbers, _) = head[4..].as_chunks::<4>();
     let number = |k: usize| u64::from(u32::from_le_bytes(numbers[k]));
     let (nodes, wires, obstacles) = (number(1), number(3), number(5));
@@ -131,23 +146,11 @@ fn sections(file: &[u8]) -> Result<[&[u8]; 3], Answer> {
     }
     let (nodes, rest) = rest.split_at(nodes as usize);
     let (wires, obstacles) = rest.split_at(wires as usize);
-    Ok([nodes, wires, obstacles])
+    Ok((version, [nodes, wires, obstacles]))
 }
 
-/// The net of three sections, after refusals 4 to 11.
-fn net_of_sections<'a>([nodes, wires, obstacles]: [&'a [u8]; 3]) -> Result<Net<'a>, Answer> {
-    let (nodes, rest) = nodes.as_chunks::<5>();
-    if !rest.is_empty() || nodes.is_empty() || nodes.len() > 256 {
-        return Err(Answer::refused(4, 0));
-    }
-    let (wires, rest) = wires.as_chunks::<3>();
-    if !rest.is_empty() || wires.len() != nodes.len() - 1 {
-        return Err(Answer::refused(5, 0));
-    }
-    let (obstacles, rest) = obstacles.as_chunks::<8>();
-    if !rest.is_empty() || obstacles.len() > 256 {
-        return Err(Answer::refused(6, 0));
-    }
+/// Refusals 7 to 10.
+fn check_tree(nodes: &[[u8; 5]], wires: &[[u8; 3]]) -> Result<(), Answer> {
     if let Some(i) = nodes.iter().position(|node| node[4] > 3) {
         return Err(Answer::refused(7, i));
     }
@@ -164,13 +167,41 @@ fn net_of_sections<'a>([nodes, wires, obstacles]: [&'a [u8]; 3]) -> Result<Net<'
             return Err(Answer::refused(10, i));
         }
     }
-    let reversed = |obstacle: &[u8; 8]| {
+    Ok(())
+}
+
+/// Refusals 11 and 20.
+fn check_obstacles<const WIDTH: usize>(obstacles: &[[u8; WIDTH]]) -> Result<(), Answer> {
+    for (k, obstacle) in obstacles.iter().enumerate() {
         let [x1, y1, x2, y2] = corners(obstacle);
-        x1 > x2 || y1 > y2
-    };
-    if let Some(k) = obstacles.iter().position(reversed) {
-        return Err(Answer::refused(11, k));
+        if x1 > x2 || y1 > y2 {
+            return Err(Answer::refused(11, k));
+        }
+        if layer(obstacle).is_some_and(|layer| layer == 0 || layer > 16) {
+            return Err(Answer::refused(20, k));
+        }
     }
+    Ok(())
+}
+
+/// The net of three sections, after refusals 4 to 11 and 20.
+fn net_of_sections<const WIDTH: usize>(
+    [nodes, wires, obstacles]: [&[u8]; 3],
+) -> Result<Net<'_, WIDTH>, Answer> {
+    let (nodes, rest) = nodes.as_chunks::<5>();
+    if !rest.is_empty() || nodes.is_empty() || nodes.len() > 256 {
+        return Err(Answer::refused(4, 0));
+    }
+    let (wires, rest) = wires.as_chunks::<3>();
+    if !rest.is_empty() || wires.len() != nodes.len() - 1 {
+        return Err(Answer::refused(5, 0));
+    }
+    let (obstacles, rest) = obstacles.as_chunks::<WIDTH>();
+    if !rest.is_empty() || obstacles.len() > 256 {
+        return Err(Answer::refused(6, 0));
+    }
+    check_tree(nodes, wires)?;
+    check_obstacles(obstacles)?;
     Ok(Net {
         nodes,
         wires,
@@ -178,20 +209,33 @@ fn net_of_sections<'a>([nodes, wires, obstacles]: [&'a [u8]; 3]) -> Result<Net<'
     })
 }
 
-pub fn net_of(file: &[u8]) -> Result<Net<'_>, Answer> {
-    net_of_sections(sections(file)?)
+pub fn net_of(file: &[u8]) -> Result<Versioned<'_>, Answer> {
+    let (version, sections) = sections(file)?;
+    net_of_version(version, sections)
+}
+
+fn net_of_version(version: u8, sections: [&[u8]; 3]) -> Result<Versioned<'_>, Answer> {
+    match version {
+        1 => net_of_sections(sections).map(Versioned::One),
+        _ => net_of_sections(sections).map(Versioned::Two),
+    }
 }
 
 pub fn read(file: &[u8]) -> Answer {
     match net_of(file) {
-        Ok(net) => Answer::done(net.count()),
+        Ok(Versioned::One(net)) => Answer::done(net.count()),
+        Ok(Versioned::Two(net)) => Answer::done(net.count()),
         Err(refusal) => refusal,
     }
 }
 
-pub fn write(nodes: &[u8], wires: &[u8], obstacles: &[u8], out: &mut [u8]) -> Answer {
+pub fn write(version: u32, nodes: &[u8], wires: &[u8], obstacles: &[u8], out: &mut [u8]) -> Answer {
+    if version != 1 && version != 2 {
+        return Answer::refused(2, 0);
+    }
+    let version = version as u8;
     let sections = [nodes, wires, obstacles];
-    if let Err(refusal) = net_of_sections(sections) {
+    if let Err(refusal) = net_of_version(version, sections) {
         return refusal;
     }
     let needed = 28 + nodes.len() + wires.len() + obstacles.len();
@@ -199,7 +243,7 @@ pub fn write(nodes: &[u8], wires: &[u8], obstacles: &[u8], out: &mut [u8]) -> An
         return Answer::refused(16, needed);
     };
     let (head, mut rest) = out.split_at_mut(28);
-    head[..4].copy_from_slice(&[1, 0, 3, 0]);
+    head[..4].copy_from_slice(&[version, 0, 3, 0]);
     let (pairs, _) = head[4..].as_chunks_mut::<8>();
     let mut offset = 28;
     for (pair, section) in pairs.iter_mut().zip(sections) {

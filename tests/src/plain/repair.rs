@@ -3,7 +3,7 @@
 //! Wires without a point that may be cut hold their nodes together in a cluster, named by its lowest node, its root. A node whose
 //! wire has such a point is a branch of the cluster its parent is in, its host. All wire of a net weighs less than 2^32.
 
-use super::net::{net_of, Net};
+use super::net::{net_of, Net, Versioned};
 use crate::Answer;
 
 const MOST: usize = 256;
@@ -28,7 +28,7 @@ impl Clusters {
     }
 }
 
-fn clusters(net: Net, stage: u32) -> Clusters {
+fn clusters<const WIDTH: usize>(net: Net<WIDTH>, stage: u32) -> Clusters {
     let mut c = Clusters {
         low: [0; MOST],
         high: [0; MOST],
@@ -84,9 +84,8 @@ struct Counts {
     total: usize,
 }
 
-/// The pass down; none if no set is legal.
-fn count_pass(net: Net, c: &Clusters, limit: u32) -> Option<Counts> {
-    let mut k = Counts {
+impl Counts {
+    const EMPTY: Counts = Counts {
         fewest: [0; MOST],
         adds: [0; MOST],
         ungated: [None; MOST],
@@ -96,6 +95,15 @@ fn count_pass(net: Net, c: &Clusters, limit: u32) -> Option<Counts> {
         near: [0; MOST],
         total: 0,
     };
+}
+
+/// The pass down, into empty counts; none if no set is legal.
+fn count_pass<const WIDTH: usize>(
+    net: Net<WIDTH>,
+    c: &Clusters,
+    limit: u32,
+    k: &mut Counts,
+) -> Option<()> {
     let n = net.count();
     let hosts = &c.host[..n];
     for r in (0..n).rev() {
@@ -173,21 +181,31 @@ fn count_pass(net: Net, c: &Clusters, limit: u32) -> Option<Counts> {
             }
         }
     }
-    Some(k)
+    Some(())
 }
 
 pub fn repair(stage: u32, limit: u32, file: &[u8], out: &mut [u8]) -> Answer {
     if stage == 0 || stage > 16 {
         return Answer::refused(1, 0);
     }
-    let net = match net_of(file) {
-        Ok(net) => net,
-        Err(refusal) => return refusal,
-    };
+    match net_of(file) {
+        Ok(Versioned::One(net)) => repair_of(net, stage, limit, out),
+        Ok(Versioned::Two(net)) => repair_of(net, stage, limit, out),
+        Err(refusal) => refusal,
+    }
+}
+
+fn repair_of<const WIDTH: usize>(
+    net: Net<WIDTH>,
+    stage: u32,
+    limit: u32,
+    out: &mut [u8],
+) -> Answer {
     let c = clusters(net, stage);
-    let Some(k) = count_pass(net, &c, limit) else {
+    let mut k = Counts::EMPTY;
+    if count_pass(net, &c, limit, &mut k).is_none() {
         return Answer::refused(15, 0);
-    };
+    }
     if 3 * k.total > out.len() {
         return Answer::refused(16, 3 * k.total);
     }

@@ -1,6 +1,6 @@
 //! The report in one pass by rising wire number.
 
-use super::net::{net_of, Net, Wire};
+use super::net::{net_of, Net, Versioned, Wire};
 use crate::Answer;
 
 const MOST: usize = 256;
@@ -12,8 +12,8 @@ fn position(&[_, low, high]: &Entry) -> u32 {
 }
 
 /// Where the entries of each wire stand in the list, after refusals 12 to 14.
-fn find_runs(
-    net: Net,
+fn find_runs<const WIDTH: usize>(
+    net: Net<WIDTH>,
     stage: u32,
     list: &[Entry],
     runs: &mut [(u32, u32); MOST],
@@ -74,10 +74,20 @@ pub fn report(stage: u32, limit: u32, file: &[u8], list: &[u8], out: &mut [u8]) 
     if stage == 0 || stage > 16 {
         return Answer::refused(1, 0);
     }
-    let net = match net_of(file) {
-        Ok(net) => net,
-        Err(refusal) => return refusal,
-    };
+    match net_of(file) {
+        Ok(Versioned::One(net)) => report_of(net, stage, limit, list, out),
+        Ok(Versioned::Two(net)) => report_of(net, stage, limit, list, out),
+        Err(refusal) => refusal,
+    }
+}
+
+fn report_of<const WIDTH: usize>(
+    net: Net<WIDTH>,
+    stage: u32,
+    limit: u32,
+    list: &[u8],
+    out: &mut [u8],
+) -> Answer {
     let (list, rest) = list.as_chunks::<3>();
     if !rest.is_empty() {
         return Answer::refused(12, 0);

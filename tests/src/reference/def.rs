@@ -1,4 +1,4 @@
-//! Routes from DEF: one net's routing read from DEF text (refusals 17 to 19), then the file of its sections (4 to 11, 16).
+//! Routes from DEF: one net's routing read from DEF text (refusals 17 to 19), then the version 1 file of its sections (4 to 11, 16).
 //!
 //! The text is cut into words, the words give points as far as the form holds, and only then the points are made nodes.
 
@@ -261,11 +261,13 @@ pub fn def(text: &[u8], place: usize, pins: &[u8], obstacles: &[u8], out: &mut [
         factor: 1,
     };
     let net = Net {
+        version: 1,
         wires: tree.wires.iter().map(wire).collect(),
         nodes: tree.nodes,
         obstacles: Vec::new(),
     };
-    let answer = write(&net.node_section(), &net.wire_section(), obstacles, out);
+    let (nodes, wires) = (net.node_section(), net.wire_section());
+    let answer = write(net.version, &nodes, &wires, obstacles, out);
     match answer.number {
         0 => Answer {
             place: end as u64,

@@ -1,4 +1,4 @@
-//! "The net" and "Files": the net, its reader (refusals 2 to 11), its writer (4 to 11, 16).
+//! "The net" and "Files", and obstacles with a layer: the net, its reader (refusals 2 to 11 and 20), its writer (2, 4 to 11 and 20, 16).
 
 use crate::Answer;
 
@@ -22,14 +22,17 @@ pub struct Obstacle {
     pub y1: u16,
     pub x2: u16,
     pub y2: u16,
+    pub layer: u8,
 }
 
 /// The records of a net; they need not make an accepted one.
 #[derive(Clone, Debug, PartialEq, Eq)]
 pub struct Net {
+    pub version: u32,
     pub nodes: Vec<Node>,
     /// Wire i stands at i - 1.
     pub wires: Vec<Wire>,
+    /// Each of layer 16 in version 1.
     pub obstacles: Vec<Obstacle>,
 }
 
@@ -89,12 +92,12 @@ impl Net {
         (along(a.x, b.x), along(a.y, b.y))
     }
 
-    /// Some obstacle holds the point.
+    /// Some obstacle holds the point, and the wire's layer is at most the obstacle's.
     pub fn barred(&self, i: usize, t: usize) -> bool {
         let (x, y) = self.point(i, t);
-        self.obstacles
-            .iter()
-            .any(|o| o.x1 <= x && x <= o.x2 && o.y1 <= y && y <= o.y2)
+        let holds = |o: &Obstacle| o.x1 <= x && x <= o.x2 && o.y1 <= y && y <= o.y2;
+        let mut obstacles = self.obstacles.iter();
+        obstacles.any(|o| holds(o) && self.wire(i).layer <= o.layer)
     }
 
     pub fn node_section(&self) -> Vec<u8> {
@@ -121,22 +124,31 @@ impl Net {
             for corner in [o.x1, o.y1, o.x2, o.y2] {
                 bytes.extend(corner.to_le_bytes());
             }
+            if self.version == 2 {
+                bytes.push(o.layer);
+            }
         }
         bytes
     }
 
+    pub fn sections(&self) -> [Vec<u8>; 3] {
+        [
+            self.node_section(),
+            self.wire_section(),
+            self.obstacle_section(),
+        ]
+    }
+
     pub fn file(&self) -> Vec<u8> {
-        file(
-            &self.node_section(),
-            &self.wire_section(),
-            &self.obstacle_section(),
-        )
+        let [nodes, wires, obstacles] = self.sections();
+        file(self.version, &nodes, &wires, &obstacles)
     }
 }
 
-/// The file of three sections, whatever they hold.
-pub fn file(nodes: &[u8], wires: &[u8], obstacles: &[u8]) -> Vec<u8> {
-    let mut bytes = vec![1, 0, 3, 0];
+/// The file of three sections, whatever they hold; of the version 16 bits.
+pub fn file(version: u32, nodes: &[u8], wires: &[u8], obstacles: &[u8]) -> Vec<u8> {
+    let [low, high, ..] = version.to_le_bytes();
+    let mut bytes = vec![low, high, 3, 0];
     let mut offset = 28;
     for section in [nodes, wires, obstacles] {
         bytes.extend((offset as u32).to_le_bytes());
@@ -157,9 +169,14 @@ fn number32(bytes: &[u8], at: usize) -> u64 {
     u64::from(number16(bytes, at)) + 65536 * u64::from(number16(bytes, at + 2))
 }
 
-/// The three sections, after refusals 2 and 3.
-pub fn sections(file: &[u8]) -> Result<[&[u8]; 3], Answer> {
-    if file.len() < 28 || number16(file, 0) != 1 || number16(file, 2) != 3 {
+/// Files have version 1 or 2.
+fn known(version: u32) -> bool {
+    [1, 2].contains(&version)
+}
+
+/// The version and the three sections, after refusals 2 and 3.
+pub fn sections(file: &[u8]) -> Result<(u32, [&[u8]; 3]), Answer> {
+    if file.len() < 28 || !known(number16(file, 0).into()) || number16(file, 2) != 3 {
         return Err(Answer::refused(2, 0));
     }
     let mut end = 28u64;
@@ -180,11 +197,11 @@ pub fn sections(file: &[u8]) -> Result<[&[u8]; 3], Answer> {
     for (part, (from, to)) in parts.iter_mut().zip(stretches) {
         *part = &file[from as usize..to as usize];
     }
-    Ok(parts)
+    Ok((number16(file, 0).into(), parts))
 }
 
-/// The net of three sections, after refusals 4 to 11.
-pub fn check(nodes: &[u8], wires: &[u8], obstacles: &[u8]) -> Result<Net, Answer> {
+/// The net of three sections of version 1 or 2, after refusals 4 to 11 and 20.
+pub fn check(version: u32, nodes: &[u8], wires: &[u8], obstacles: &[u8]) -> Result<Net, Answer> {
     let count = nodes.len() / 5;
     if nodes.len() % 5 != 0 || !(1..=256).contains(&count) {
         return Err(Answer::refused(4, 0));
@@ -192,10 +209,12 @@ pub fn check(nodes: &[u8], wires: &[u8], obstacles: &[u8]) -> Result<Net, Answer
     if wires.len() != 3 * (count - 1) {
         return Err(Answer::refused(5, 0));
     }
-    if obstacles.len() % 8 != 0 || obstacles.len() / 8 > 256 {
+    let width = if version == 1 { 8 } else { 9 };
+    if obstacles.len() % width != 0 || obstacles.len() / width > 256 {
         return Err(Answer::refused(6, 0));
     }
     let net = Net {
+        version,
         nodes: nodes
             .chunks(5)
             .map(|b| Node {
@@ -213,12 +232,13 @@ pub fn check(nodes: &[u8], wires: &[u8], obstacles: &[u8]) -> Result<Net, Answer
             })
             .collect(),
         obstacles: obstacles
-            .chunks(8)
+            .chunks(width)
             .map(|b| Obstacle {
                 x1: number16(b, 0),
                 y1: number16(b, 2),
                 x2: number16(b, 4),
                 y2: number16(b, 6),
+                layer: if version == 1 { 16 } else { b[8] },
             })
             .collect(),
     };
@@ -244,14 +264,17 @@ pub fn check(nodes: &[u8], wires: &[u8], obstacles: &[u8]) -> Result<Net, Answer
         if o.x1 > o.x2 || o.y1 > o.y2 {
             return Err(Answer::refused(11, k));
         }
+        if !(1..=16).contains(&o.layer) {
+            return Err(Answer::refused(20, k));
+        }
     }
     Ok(net)
 }
 
-/// The net of a file, after refusals 2 to 11.
+/// The net of a file, after refusals 2 to 11 and 20.
 pub fn net_of(file: &[u8]) -> Result<Net, Answer> {
-    let [nodes, wires, obstacles] = sections(file)?;
-    check(nodes, wires, obstacles)
+    let (version, [nodes, wires, obstacles]) = sections(file)?;
+    check(version, nodes, wires, obstacles)
 }
 
 /// Reading a net alone; the count is that of the nodes.
@@ -263,11 +286,14 @@ pub fn read(file: &[u8]) -> Answer {
 }
 
 /// The writer; the count is that of the bytes written.
-pub fn write(nodes: &[u8], wires: &[u8], obstacles: &[u8], out: &mut [u8]) -> Answer {
-    if let Err(refusal) = check(nodes, wires, obstacles) {
+pub fn write(version: u32, nodes: &[u8], wires: &[u8], obstacles: &[u8], out: &mut [u8]) -> Answer {
+    if !known(version) {
+        return Answer::refused(2, 0);
+    }
+    if let Err(refusal) = check(version, nodes, wires, obstacles) {
         return refusal;
     }
-    let bytes = file(nodes, wires, obstacles);
+    let bytes = file(version, nodes, wires, obstacles);
     if bytes.len() > out.len() {
         return Answer::refused(16, bytes.len());
     }

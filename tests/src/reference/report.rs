@@ -1,4 +1,4 @@
-//! "Pieces": every piece, found by joining nodes and single steps; the jumper list (refusals 12 to 14) and the report (1 to 14, 16).
+//! "Pieces": every piece, found by joining nodes and single steps; the jumper list (refusals 12 to 14) and the report (1 to 14 and 20, 16).
 
 use super::net::{net_of, Net};
 use crate::Answer;
@@ -203,7 +203,7 @@ pub fn list_of(points: &[Point]) -> Vec<u8> {
     bytes
 }
 
-/// The net at a stage, after refusals 1 to 11.
+/// The net at a stage, after refusals 1 to 11 and 20.
 pub fn net_at(stage: u32, file: &[u8]) -> Result<Net, Answer> {
     if !(1..=16).contains(&stage) {
         return Err(Answer::refused(1, 0));

@@ -3,6 +3,7 @@
 //! The first byte chooses the call, the next few its numbers and lengths, the rest are its slices.
 
 use super::def::compare as compare_def;
+use super::met::version_of;
 use super::repair::compare;
 use super::report::compare_report;
 use crate::generate::def::{any_case, Case};
@@ -40,17 +41,28 @@ impl<'a> Input<'a> {
     }
 }
 
-/// Makes the call that the bytes say; the answer with the number of the call.
-pub fn one(bytes: &[u8]) -> (u8, Answer) {
+/// A call that was made: its number, the version of its net, and its answer.
+pub struct Made {
+    pub call: u8,
+    pub version: u32,
+    pub answer: Answer,
+}
+
+/// Makes the call that the bytes say.
+pub fn one(bytes: &[u8]) -> Made {
     let mut input = Input(bytes);
     let call = input.byte() % 5;
+    // of a file, where the call takes one
+    let mut version = 1;
     let answer = match call {
         0 => {
+            version = version_of(input.0);
             let answer = library::read(input.0);
             assert_eq!(answer, expected_read(input.0));
             answer
         }
         1 => {
+            version = input.number(4);
             let lent = input.number(2) as usize;
             let nodes_length = input.number(2) as usize;
             let wires_length = input.number(2) as usize;
@@ -58,8 +70,8 @@ pub fn one(bytes: &[u8]) -> (u8, Answer) {
             let wires = input.slice(wires_length);
             let mut out = vec![0xc3; lent];
             let mut expected_out = out.clone();
-            let answer = library::write(nodes, wires, input.0, &mut out);
-            let expected = expected_write(nodes, wires, input.0, &mut expected_out);
+            let answer = library::write(version, nodes, wires, input.0, &mut out);
+            let expected = expected_write(version, nodes, wires, input.0, &mut expected_out);
             assert_eq!(answer, expected);
             assert!(out == expected_out);
             answer
@@ -69,11 +81,13 @@ pub fn one(bytes: &[u8]) -> (u8, Answer) {
             let lent = input.number(2) as usize;
             let list_length = input.number(2) as usize;
             let list = input.slice(list_length);
+            version = version_of(input.0);
             compare_report(library::report, stage, limit, input.0, list, lent)
         }
         3 => {
             let (stage, limit) = (input.number(1), input.number(4));
             let file = input.0;
+            version = version_of(file);
             let mut out = vec![0x3c; REPAIR_MOST];
             let answer = library::repair(stage, limit, file, &mut out);
             match net_at(stage, file) {
@@ -100,7 +114,11 @@ pub fn one(bytes: &[u8]) -> (u8, Answer) {
             compare_def(library::def, &case, lent)
         }
     };
-    (call, answer)
+    Made {
+        call,
+        version,
+        answer,
+    }
 }
 
 /// A good or damaged input from the generators.
@@ -111,7 +129,8 @@ pub fn seed(random: &mut Random) -> Vec<u8> {
     match call {
         0 => bytes.extend(any_file(random)),
         1 => {
-            let [nodes, wires, obstacles] = damaged_sections(random);
+            let (version, [nodes, wires, obstacles]) = damaged_sections(random);
+            bytes.extend(version.to_le_bytes());
             let needed = 28 + nodes.len() + wires.len() + obstacles.len();
             bytes.extend(two(needed + random.below(4) as usize - 1));
             bytes.extend(two(nodes.len()));

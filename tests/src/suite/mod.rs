@@ -2,6 +2,8 @@
 
 pub mod def;
 pub mod fuzz;
+pub mod layers;
+pub mod met;
 pub mod net;
 pub mod program;
 pub mod repair;

@@ -165,13 +165,15 @@ pub fn many_inputs(check: impl Fn(&[u8], &[usize]), cases: usize) {
     // a net file that only fits if more than 8,192 bytes are read, and one that only fits if no more are
     let node = [0, 0, 0, 0, 1];
     for obstacles in [8 * 1020, 8 * 1019, 8154, 8155, 9000, 70_000] {
-        let mut long = input(1, 0, &file(&node, &[], &vec![0; obstacles]));
-        check(&long, &[]);
-        check(&long, &[5, 28, 4096, 4096]);
-        long.truncate(MOST);
-        check(&long, &[]);
-        long.extend(vec![7; 100_000]);
-        check(&long, &[]);
+        for version in [1, 2] {
+            let mut long = input(1, 0, &file(version, &node, &[], &vec![0; obstacles]));
+            check(&long, &[]);
+            check(&long, &[5, 28, 4096, 4096]);
+            long.truncate(MOST);
+            check(&long, &[]);
+            long.extend(vec![7; 100_000]);
+            check(&long, &[]);
+        }
     }
     let good = input(1, 1, &net.file());
     let mut followed = good.clone();

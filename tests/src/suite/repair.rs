@@ -1,5 +1,7 @@
-//! Repair: refusals 1 to 11, 15, 16; a smallest legal set, every byte behind it untouched.
+//! Repair: refusals 1 to 11 and 20, 15, 16; a smallest legal set, every byte behind it untouched.
 
+use super::met::{version_of, Met};
+use crate::generate::obstacle::on_layers;
 use crate::generate::{any_file, large_case, net, small_case, Shape};
 use crate::library::REPAIR_MOST;
 use crate::random::Random;
@@ -69,23 +71,34 @@ pub fn compare(
     }
 }
 
-/// Small nets against every set.
+/// Small nets against every set. In version 2 the least count often is another if layers are ignored, and if an equal layer does not count.
 pub fn small_nets(repair: Repair, cases: usize) {
     let mut random = Random::new(30);
-    let mut counts = [0usize; 16];
-    let mut refused = 0;
+    let mut counts = [[0usize; 16]; 2];
+    let mut refused = [0; 2];
+    let (mut by_layer, mut by_equal) = (0, 0);
     for _ in 0..cases {
         let (net, stage, limit) = small_case(&mut random, 11);
         let least = every_set::least(&net, stage, limit);
         compare(repair, &net, stage, limit, least, true);
+        let version = net.version as usize - 1;
         match least {
-            None => refused += 1,
-            Some(count) => counts[count] += 1,
+            None => refused[version] += 1,
+            Some(count) => counts[version][count] += 1,
+        }
+        if version == 1 {
+            let least_of = |net: Net| table::least(&net, stage, limit);
+            by_layer += usize::from(least_of(on_layers(&net, |_| 16)) != least);
+            by_equal += usize::from(least_of(on_layers(&net, |layer| layer - 1)) != least);
         }
     }
-    println!("refused {refused}, by count {counts:?}");
-    assert!(refused * 10 > cases && counts[0] * 10 > cases && counts[1] * 20 > cases);
-    assert!(counts[2] * 100 > cases && counts[3] * 1000 > cases);
+    println!("refused {refused:?}, by count {counts:?}");
+    println!("another by layer {by_layer}, by an equal layer {by_equal}");
+    for (refused, counts) in refused.into_iter().zip(counts) {
+        assert!(refused * 20 > cases && counts[0] * 20 > cases && counts[1] * 40 > cases);
+        assert!(counts[2] * 200 > cases && counts[3] * 2000 > cases);
+    }
+    assert!(by_layer * 100 > cases && by_equal * 100 > cases);
 }
 
 /// Nets of 100 to 256 nodes against the table over node and jumper count.
@@ -113,12 +126,12 @@ pub fn large_nets(repair: Repair, cases: usize) {
 /// Stages outside 1 to 16 and damaged files: the first refusal, as reading has it.
 pub fn refusals_in_order(repair: Repair, cases: usize) {
     let mut random = Random::new(32);
-    let mut met = [0usize; 17];
+    let mut met = Met::default();
     for _ in 0..cases {
         let file = any_file(&mut random);
         let stage = random.pick(&[0, 1, 2, 3, 16, 17, 256, 257, u32::MAX]);
-        let limit = random.next() as u32;
-        let lent = random.below(20) as usize;
+        let limit = random.next() as u32 >> random.pick(&[0, 22, 25, 28]);
+        let lent = random.pick(&[0, 0, 1, 2, 20]);
         let (answer, _) = call(repair, stage, limit, &file, lent);
         let read = expected_read(&file);
         if !(1..=16).contains(&stage) {
@@ -128,16 +141,31 @@ pub fn refusals_in_order(repair: Repair, cases: usize) {
         } else {
             assert!([0, 15, 16].contains(&answer.number));
         }
-        met[answer.number as usize] += 1;
+        met.add(version_of(&file), answer.number);
     }
-    for (number, &met) in met.iter().enumerate().take(12) {
-        assert!(met * 1000 > cases, "refusal {number}");
+    println!("repair answers by number: {met:?}");
+    let mut numbers: Vec<usize> = (0..=11).chain([15, 16]).collect();
+    met.often(0, &[1, 2], 10_000, cases);
+    met.often(1, &numbers, 2000, cases);
+    numbers.push(20);
+    met.often(2, &numbers, 2000, cases);
+}
+
+/// An obstacle of a layer.
+pub fn of_layer(layer: u8, [x1, y1, x2, y2]: [u16; 4]) -> Obstacle {
+    Obstacle {
+        x1,
+        y1,
+        x2,
+        y2,
+        layer,
     }
 }
 
 /// A chain of nodes along the x axis from 0 on, one wire between two neighbours.
 fn chain(xs: &[u16], flags: &[u8], obstacles: &[[u16; 4]]) -> Net {
     Net {
+        version: 1,
         nodes: xs
             .iter()
             .zip(flags)
@@ -152,7 +180,7 @@ fn chain(xs: &[u16], flags: &[u8], obstacles: &[[u16; 4]]) -> Net {
             .collect(),
         obstacles: obstacles
             .iter()
-            .map(|&[x1, y1, x2, y2]| Obstacle { x1, y1, x2, y2 })
+            .map(|&corners| of_layer(16, corners))
             .collect(),
     }
 }
@@ -170,6 +198,7 @@ pub fn net_j(turns: u32) -> Net {
     let turned =
         |(x, y): (u16, u16)| -> (u16, u16) { (0..turns).fold((x, y), |(x, y), _| (20 - y, x)) };
     Net {
+        version: 1,
         nodes: places
             .iter()
             .enumerate()
@@ -317,7 +346,7 @@ pub fn worst_nets(repair: Repair) -> f64 {
         for limit in [0, 1, 255, 65535, total / 200, total / 7, total / 2, total] {
             let mut out = vec![0; REPAIR_MOST];
             let start = std::time::Instant::now();
-            repair(1, limit as u32, &file, &mut out);
+            repair(16, limit as u32, &file, &mut out);
             slowest = slowest.max(start.elapsed().as_secs_f64() * 1000.0);
         }
     }
@@ -328,6 +357,7 @@ pub fn worst_nets(repair: Repair) -> f64 {
 pub fn worst() -> Vec<(&'static str, Net)> {
     let star = |length: u16, obstacles: Vec<Obstacle>| -> Net {
         Net {
+            version: 1,
             nodes: (0..256)
                 .map(|i| Node {
                     x: if i == 0 { 0 } else { length - (i % 7) as u16 },
@@ -347,6 +377,7 @@ pub fn worst() -> Vec<(&'static str, Net)> {
     };
     let to_and_fro = |obstacles: Vec<Obstacle>| -> Net {
         Net {
+            version: 1,
             nodes: (0..256)
                 .map(|i| Node {
                     x: if i % 2 == 0 { 0 } else { 65535 },
@@ -370,17 +401,23 @@ pub fn worst() -> Vec<(&'static str, Net)> {
             .rev()
             .map(|k| {
                 let x1 = (from as u32 + k * (width as u32 + gap as u32)).min(65535) as u16;
-                Obstacle {
-                    x1,
-                    y1: 0,
-                    x2: x1.saturating_add(width - 1),
-                    y2: 0,
-                }
+                of_layer(16, [x1, 0, x1.saturating_add(width - 1), 0])
             })
             .collect()
     };
     let mut turned = comb(1, 250, 0);
     turned.reverse();
+    // version 2: layers 1 and 3 take turns, and every wire is of layer 2
+    let layered = |mut net: Net| -> Net {
+        net.version = 2;
+        for wire in &mut net.wires {
+            wire.layer = 2;
+        }
+        for (k, obstacle) in net.obstacles.iter_mut().enumerate() {
+            obstacle.layer = if k % 2 == 0 { 1 } else { 3 };
+        }
+        net
+    };
     vec![
         ("star, no obstacle", star(65535, Vec::new())),
         (
@@ -405,6 +442,14 @@ pub fn worst() -> Vec<(&'static str, Net)> {
             "chain, open at every 255th step",
             to_and_fro(comb(1, 254, 1)),
         ),
+        (
+            "star, every second obstacle counts",
+            layered(star(65535, comb(1, 250, 0))),
+        ),
+        (
+            "chain, every second obstacle counts",
+            layered(to_and_fro(comb(1, 250, 0))),
+        ),
     ]
 }
 
@@ -412,8 +457,9 @@ pub fn worst() -> Vec<(&'static str, Net)> {
 pub fn worst_nets_are_right(repair: Repair) {
     let mut random = Random::new(33);
     for (nodes, obstacles) in [(256, 0), (256, 256), (64, 256)] {
-        for _ in 0..20 {
+        for k in 0..20 {
             let shape = Shape {
+                version: 1 + k % 2,
                 nodes,
                 longest: 300,
                 obstacles,

@@ -1,8 +1,10 @@
-//! The report: refusals 1 to 14 and 16, every record, every byte behind the last.
+//! The report: refusals 1 to 14, 16 and 20, every record, every byte behind the last.
 
-use crate::generate::{any_file, any_net, jumper_list, limit, net, stage, Shape};
+use super::met::{version_of, Met};
+use crate::generate::obstacle::on_layers;
+use crate::generate::{any_file, any_net, jumper_list, limit, net, stage, version, Shape};
 use crate::random::Random;
-use crate::reference::net::Net;
+use crate::reference::net::{net_of, Net};
 use crate::reference::report::{free_points, list_of, report as expected_report};
 use crate::{Answer, Report};
 
@@ -39,6 +41,7 @@ fn needed(stage: u32, file: &[u8], list: &[u8]) -> usize {
 fn random_net(random: &mut Random) -> Net {
     if random.chance(1, 40) {
         let shape = Shape {
+            version: version(random),
             nodes: random.range(1, 256) as usize,
             longest: 20,
             obstacles: random.below(257) as usize,
@@ -49,10 +52,19 @@ fn random_net(random: &mut Random) -> Net {
     }
 }
 
-/// Random nets, lists good and damaged, buffers near the need; every refusal is met often.
+/// The answer would be another if every obstacle counted for every wire.
+fn layers_matter(stage: u32, file: &[u8], list: &[u8], answer: Answer) -> bool {
+    let Ok(net) = net_of(file) else {
+        return false;
+    };
+    let file = on_layers(&net, |_| 16).file();
+    expected_report(stage, 0, &file, list, &mut []).number == 14 && answer.number != 14
+}
+
+/// Random nets, lists good and damaged, buffers near the need; every refusal that a version can meet is met often in it.
 pub fn random_calls(report: Report, cases: usize) {
     let mut random = Random::new(20);
-    let mut met = [0usize; 17];
+    let (mut met, mut by_layer) = (Met::default(), 0);
     for _ in 0..cases {
         let net = random_net(&mut random);
         let mut stage = stage(&mut random, &net);
@@ -75,12 +87,16 @@ pub fn random_calls(report: Report, cases: usize) {
             _ => needed + random.below(30) as usize,
         };
         let answer = compare_report(report, stage, limit, &file, &list, lent);
-        met[answer.number as usize] += 1;
+        met.add(version_of(&file), answer.number);
+        by_layer += usize::from(layers_matter(stage, &file, &list, answer));
     }
-    println!("report answers by number: {met:?}");
-    for (number, &met) in met.iter().enumerate() {
-        assert!(number == 15 || met * 1000 > cases, "refusal {number}");
-    }
+    println!("report answers by number: {met:?}, not 14 by a layer: {by_layer}");
+    let mut numbers: Vec<usize> = (0..=14).chain([16]).collect();
+    met.often(0, &[1, 2], 10_000, cases);
+    met.often(1, &numbers, 2000, cases);
+    numbers.push(20);
+    met.often(2, &numbers, 2000, cases);
+    assert!(by_layer * 100 > cases);
 }
 
 /// Every length of buffer up to the need and some bytes more.
@@ -106,8 +122,16 @@ pub fn every_length_lent(report: Report) {
 /// Tens of thousands of jumpers, and wires of 65,535 steps.
 pub fn many_jumpers(report: Report) {
     let mut random = Random::new(22);
-    for longest in [100, 1000, 65535] {
+    for (longest, version) in [
+        (100, 1),
+        (100, 2),
+        (1000, 1),
+        (1000, 2),
+        (65535, 1),
+        (65535, 2),
+    ] {
         let shape = Shape {
+            version,
             nodes: if longest == 65535 { 8 } else { 256 },
             longest,
             obstacles: 3,
@@ -129,6 +153,7 @@ pub fn many_jumpers(report: Report) {
 pub fn heaviest(report: Report) {
     use crate::reference::net::{Node, Wire};
     let net = Net {
+        version: 1,
         nodes: (0..256)
             .map(|i| Node {
                 x: if i % 2 == 0 { 0 } else { 65535 },

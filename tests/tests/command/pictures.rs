@@ -3,7 +3,7 @@
 use super::{antenna, sample, samples, stored};
 use antenna_tests::generate;
 use antenna_tests::random::Random;
-use antenna_tests::reference::net::Net;
+use antenna_tests::reference::net::{Net, Obstacle};
 use antenna_tests::reference::report;
 use antenna_tests::root;
 
@@ -61,6 +61,17 @@ impl Picture {
         let (net, _) = self.parts();
         let is = move |line: &&String| line.starts_with(start) && line.contains(what);
         net.iter().filter(is)
+    }
+
+    /// Labels in letters of a size of their own: what they say, and their middles.
+    fn small_labels(&self) -> Vec<(&str, (f64, f64))> {
+        let middle = |line: &String| {
+            let (letters, count) = (field(line, "font-size"), text(line).len() as f64);
+            let (left, foot) = (field(line, "x"), field(line, "y"));
+            (left + 0.32 * letters * count, foot - 0.35 * letters)
+        };
+        let labels = self.with("<text", "font-size");
+        labels.map(|line| (text(line), middle(line))).collect()
     }
 
     fn labels<'a>(&'a self, colour: &'a str) -> impl Iterator<Item = &'a String> {
@@ -239,6 +250,27 @@ fn legend_has_what_is_there() {
             ],
         ),
         (
+            Picture::repaired("straps.net", &["--limit=60", "--stage=3"]),
+            &[
+                "gate",
+                "jumper, wire:position",
+                "obstacle, with its layer",
+                "obstacle of a lower layer, does not count",
+                "layer 3",
+                "layer 4, not made yet",
+            ],
+        ),
+        (
+            Picture::new("crossing.net", &["--limit=24", "--stage=3"], &[]),
+            &[
+                "gate",
+                "node",
+                "obstacle, with its layer",
+                "layer 1",
+                "layer 3",
+            ],
+        ),
+        (
             Picture::new("features.net", &["--limit=30", "--stage=3"], &[]),
             &[
                 &features[..],
@@ -289,16 +321,57 @@ fn scale(net: &Net) -> impl Fn((u16, u16)) -> (f64, f64) {
     }
 }
 
-/// The points inside wires that no obstacle bars, as the picture has them.
-fn free_points(net: &Net) -> Vec<(f64, f64)> {
+/// The points inside wires that no obstacle bars, as the picture has them, each with its wire's layer.
+fn free_points(net: &Net) -> Vec<(u8, (f64, f64))> {
     let scale = scale(net);
     let wires = 1..net.nodes.len();
     let points = wires.flat_map(|i| (1..net.length(i)).map(move |t| (i, t)));
     let free = points.filter(|&(i, t)| !net.barred(i, t));
-    free.map(|(i, t)| scale(net.point(i, t))).collect()
+    free.map(|(i, t)| (net.wire(i).layer, scale(net.point(i, t))))
+        .collect()
 }
 
-/// No rectangle of an obstacle holds a point that is free.
+/// An obstacle that a picture has: its number and layer, where these are said, and its rectangle.
+struct Drawn<'a> {
+    named: Option<(usize, u8)>,
+    rectangle: [f64; 4],
+    line: &'a str,
+}
+
+impl Drawn<'_> {
+    fn faint(&self) -> bool {
+        self.line.contains("stroke-dasharray")
+    }
+}
+
+impl Picture {
+    fn obstacles(&self) -> Vec<Drawn<'_>> {
+        let (net, _) = self.parts();
+        let is = |line: &str| line.starts_with("<rect") && line.contains("fill-opacity");
+        let pairs = net.windows(2).filter(|pair| is(&pair[1]));
+        let drawn = pairs.map(|pair| Drawn {
+            named: named(&pair[0]),
+            rectangle: rectangle(&pair[1]),
+            line: &pair[1],
+        });
+        drawn.collect()
+    }
+}
+
+fn named(line: &str) -> Option<(usize, u8)> {
+    let title = line.strip_prefix("<g><title>obstacle ")?;
+    let (number, layer) = title.strip_suffix("</title>")?.split_once(": layer ")?;
+    Some((number.parse().ok()?, layer.parse().ok()?))
+}
+
+/// Left, top, right, bottom.
+fn rectangle(line: &str) -> [f64; 4] {
+    let (left, top) = (field(line, "x"), field(line, "y"));
+    let (width, height) = (field(line, "width"), field(line, "height"));
+    [left, top, left + width, top + height]
+}
+
+/// No rectangle of an obstacle holds a free point of a wire that it counts for.
 #[test]
 fn obstacles_cover_no_free_point() {
     let single = stored(
@@ -310,15 +383,74 @@ fn obstacles_cover_no_free_point() {
         let net = sample(&name);
         let free = free_points(&net);
         let picture = Picture::new(&name, &["--limit=0"], &[]);
-        for line in picture.with("<rect", "fill-opacity") {
-            let (left, top) = (field(line, "x"), field(line, "y"));
-            let (right, bottom) = (left + field(line, "width"), top + field(line, "height"));
-            let inside = |&&(x, y): &&(f64, f64)| left < x && x < right && top < y && y < bottom;
-            assert_eq!(free.iter().find(inside), None, "{name}: {line}");
+        for obstacle in picture.obstacles() {
+            let [left, top, right, bottom] = obstacle.rectangle;
+            let highest = obstacle.named.map_or(16, |(_, layer)| layer);
+            let inside = |&&(layer, (x, y)): &&(u8, (f64, f64))| {
+                layer <= highest && left < x && x < right && top < y && y < bottom
+            };
+            assert_eq!(free.iter().find(inside), None, "{name}: {}", obstacle.line);
             rectangles += 1;
         }
     }
-    assert!(rectangles >= 12, "{rectangles}");
+    assert!(rectangles >= 15, "{rectangles}");
+}
+
+/// Does the obstacle hold a point inside the wire?
+fn holds(net: &Net, o: &Obstacle, i: usize) -> bool {
+    (1..net.length(i)).any(|t| {
+        let (x, y) = net.point(i, t);
+        o.x1 <= x && x <= o.x2 && o.y1 <= y && y <= o.y2
+    })
+}
+
+/// In version 2 every obstacle has its layer on it, and is faint if it does not count for the stage's wires; in version 1 none has or is.
+#[test]
+fn layers_of_obstacles() {
+    let mut random = Random::new(13);
+    // version 1; counts, with a point held and without; faint, with a point held and without
+    let mut seen = [0; 5];
+    for _ in 0..120 {
+        let net = generate::any_net(&mut random);
+        let stage = generate::stage(&mut random, &net);
+        let file = stored("layers.net", &net.file());
+        let options = ["--limit=9", &format!("--stage={stage}")];
+        let picture = Picture::new(&file, &options, &[]);
+        let drawn = picture.obstacles();
+        let mut labels = picture.small_labels();
+        for obstacle in &drawn {
+            let Some((number, layer)) = obstacle.named else {
+                assert!(net.version == 1 && !obstacle.faint());
+                seen[0] += 1;
+                continue;
+            };
+            let own = &net.obstacles[number];
+            assert_eq!((net.version, layer), (2, own.layer));
+            let present: Vec<usize> = (1..net.nodes.len())
+                .filter(|&i| net.present(stage, i))
+                .collect();
+            let held: Vec<usize> = present
+                .iter()
+                .copied()
+                .filter(|&i| holds(&net, own, i))
+                .collect();
+            let wires = if held.is_empty() { &present } else { &held };
+            let counts = wires.iter().any(|&i| net.wire(i).layer <= layer);
+            assert_eq!(obstacle.faint(), !counts, "{number} at stage {stage}");
+            seen[1 + 2 * usize::from(!counts) + usize::from(held.is_empty())] += 1;
+            // labels are in the order of their obstacles
+            let (text, middle) = labels.remove(0);
+            assert_eq!(text, format!("L{layer}"));
+            let [left, top, right, bottom] = obstacle.rectangle;
+            assert!(left - 0.2 <= middle.0 && middle.0 <= right + 0.2, "{text}");
+            assert!(top - 0.2 <= middle.1 && middle.1 <= bottom + 0.2, "{text}");
+        }
+        assert_eq!(labels, []);
+        let faint = "obstacle of a lower layer, does not count";
+        let said = picture.legend().contains(&faint);
+        assert_eq!(said, drawn.iter().any(|obstacle| obstacle.faint()));
+    }
+    assert!(seen.iter().all(|&n| n > 5), "{seen:?}");
 }
 
 /// The middle of each cross, and of each gate with half its width.
@@ -398,6 +530,25 @@ fn crosses_hide_no_gate() {
     assert!(crosses_in_all > 100, "{crosses_in_all}");
 }
 
+/// A cross that would lie on a gate moves along its wire, over an obstacle that does not count for the wire too; where one counts it stands beside the wire.
+#[test]
+fn crosses_at_straps() {
+    for (layer, along) in [(2, true), (3, false), (4, false)] {
+        let net = format!(
+            "version 2\nnode 0 at 0 0 gate\nnode 1 at 200 0 gate\nwire 1 to 0 layer 3 factor 1\nobstacle 190 0 to 198 0 layer {layer}\n"
+        );
+        let net = stored("moved.net", net.as_bytes());
+        let picture = Picture::new(&net, &["--limit=200"], b"1 1\n");
+        let (crosses, gates) = crosses_and_gates(&picture);
+        let [(x, y, _)] = crosses[..] else {
+            panic!("{} crosses", crosses.len())
+        };
+        let (gate_x, gate_y, _) = gates[1];
+        assert_eq!((y - gate_y).abs() < 0.2, along, "layer {layer}");
+        assert_eq!(gate_x - x > 10.0, along, "layer {layer}");
+    }
+}
+
 /// The pictures of README are those the command draws, and their letters are 11 pixels high or more where two share a page of 860.
 #[test]
 fn pictures_of_readme() {
@@ -405,10 +556,14 @@ fn pictures_of_readme() {
     for (name, picture) in [
         ("before", Picture::new("features.net", &at, &[])),
         ("after", Picture::repaired("features.net", &at)),
+        (
+            "straps",
+            Picture::repaired("straps.net", &["--stage", "3", "--limit", "60"]),
+        ),
     ] {
         let kept = std::fs::read_to_string(root().join(format!("docs/{name}.svg"))).unwrap();
         let same = kept.lines().eq(picture.lines.iter());
-        assert!(same, "docs/{name}.svg is not what make demo draws");
+        assert!(same, "docs/{name}.svg is not what the command draws");
         let head = &picture.lines[0];
         assert!(field(head, "font-size") * 430.0 / field(head, "width") >= 11.0);
     }

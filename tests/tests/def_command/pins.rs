@@ -151,14 +151,21 @@ fn obstacles_on_the_net() {
                      obstacle -2000 -2000 to 200000 0\nobstacle 1 0 to 9 9\n";
     let (net, ran) = with("obstacles", "", obstacles, "1");
     assert_eq!((ran.status, ran.errors.as_str()), (Some(0), ""));
-    let obstacle = |x1, y1, x2, y2| Obstacle { x1, y1, x2, y2 };
+    let obstacle = |x1, y1, x2, y2| Obstacle {
+        x1,
+        y1,
+        x2,
+        y2,
+        layer: 16,
+    };
     let expected = [
         obstacle(40, 195, 60, 205),
         obstacle(150, 270, 150, 270),
         obstacle(0, 0, 65535, 200),
         obstacle(101, 200, 109, 209),
     ];
-    assert_eq!(net.unwrap().obstacles, expected);
+    let net = net.unwrap();
+    assert_eq!((net.version, &net.obstacles[..]), (1, &expected[..]));
     let (net, _) = with("obstacles-grid", "", obstacles, "10");
     let expected = [
         obstacle(4, 20, 6, 20),
@@ -170,6 +177,10 @@ fn obstacles_on_the_net() {
         ("obstacle 0 0 to -1 0\n", ":1: its corners are reversed"),
         (
             "obstacle 0 0 1 1\n",
+            ":1: an obstacle is 'obstacle X1 Y1 to X2 Y2'",
+        ),
+        (
+            "obstacle 0 0 to 1 1 layer 3\n",
             ":1: an obstacle is 'obstacle X1 Y1 to X2 Y2'",
         ),
         ("obstacle 0 0 to 1 1.5\n", ":1: '1.5' is no whole number"),

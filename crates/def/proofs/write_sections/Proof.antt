@@ -8,7 +8,7 @@ use Rattle.net.specs.Refusal.{met}
 use Rattle.net.specs.First.{met-number, unmet-number}
 use Rattle.net.specs.Accepted.{net-right-of}
 use Rattle.net.specs.Writing.{write-net, write-lent, write-done}
-use Rattle.def.specs.Ending.{ended-refused, ended-done}
+use Rattle.def.specs.Ending.{first-version, ended-refused, ended-done}
 use borrow.Author.Needs.{needs}
 use Rattle.def.proofs.write_sections.Statement.{statement}
 use Rattle.def.proofs.write_sections.Tie as tie
@@ -23,7 +23,7 @@ returns : tie.Need-returns
 returns c =
     let r = c .before .before .before .net-refusal in
     let m = met-number (r .result) (c .before .if1 .taken) in
-    ended-refused _ _ _ _ _ (write-net _ _ _ _ _ (r .ensures) m) m (c .answered .ensures)
+    ended-refused _ _ _ _ _ (write-net _ _ _ _ _ _ first-version (r .ensures) m) m (c .answered .ensures)
 
 add-needed : tie.Need-add-needed
 add-needed c = search needs
@@ -32,7 +32,7 @@ add-needed c = search needs
 short : (c : tie.Else1) → let a = c .before .before .before .before .before .before .before .args in fileBytes (a .nodes .now) (a .wires .now) (a .obstacles .now) < 18446744073709551616
 short c =
     let r = c .before .before .net-refusal in
-    let s = net-right-of _ _ _ (ap met (sym (r .ensures)) ∙ unmet-number (r .result) (c .if1 .left)) .sized in
+    let s = net-right-of _ _ _ _ (ap met (sym (r .ensures)) ∙ unmet-number (r .result) (c .if1 .left)) .sized in
     omega arith
 
 add-needed-2 : tie.Need-add-needed-2
@@ -52,7 +52,7 @@ returns-2 c =
     let r = c .before .before .before .before .before .net-refusal in
     let m = unmet-number (r .result) (c .before .before .before .if1 .left) in
     let e = c .before .refused .ensures in
-    ended-refused _ _ _ _ _ (e ∙ write-lent _ _ _ _ _ _ (r .ensures) m refl (c .before .before .if2 .taken)) (ap met e) (c .answered2 .ensures)
+    ended-refused _ _ _ _ _ (e ∙ write-lent _ _ _ _ _ _ _ first-version (r .ensures) m refl (c .before .before .if2 .taken)) (ap met e) (c .answered2 .ensures)
 
 write-file-requires : tie.Need-write-file-requires
 write-file-requires c κs = search needs
@@ -64,7 +64,7 @@ returns-3 : tie.Need-returns-3
 returns-3 c =
     let r = c .before .before .before .before .before .before .before .net-refusal in
     let m = unmet-number (r .result) (c .before .before .before .before .before .if1 .left) in
-    ended-done _ _ _ _ _ (write-done _ _ _ _ _ _ (r .ensures) m refl (c .before .before .before .before .if2 .left)) (c .before .before .write-file .ensures)
+    ended-done _ _ _ _ _ (write-done _ _ _ _ _ _ _ first-version (r .ensures) m refl (c .before .before .before .before .if2 .left)) (c .before .before .write-file .ensures)
 
 pub write-sections-spec : {M : Type 1} → statement M
 write-sections-spec =

@@ -1,6 +1,7 @@
 -- `points::highest_free` meets its contract. Assumes nothing.
-use Rattle.points.specs.Geometry.{reach-less, heldAt, first-none, leap-down}
-use Rattle.net.specs.Net.{obstacleCount, holds}
+use Rattle.points.specs.Geometry.{reach-less, bars, barredAt, first-none, leap-down}
+use Rattle.net.specs.Layout.{newest}
+use Rattle.net.specs.Net.{obstacleCount}
 use denote.Ref.{now}
 use mir.Facts.{toZ-ofZ}
 use mir.Val.{toZ, ofZ}
@@ -14,11 +15,11 @@ use Rattle.points.proofs.highest_free.Statement.{statement}
 use Rattle.points.proofs.highest_free.Tie as tie
 
 abbrev Inv-loop : tie.InvT-loop
-Inv-loop obstacles x y dx dy last count t₀ t =
-    (count ≡ obstacleCount obstacles) × (t ≤ last) × ((s : ℕ) → t < s → s ≤ last → heldAt obstacles x y (toZ w32 dx) (toZ w32 dy) s ≡ true)
+Inv-loop obstacles layer x y dx dy last count t₀ t =
+    (count ≡ obstacleCount newest obstacles) × (t ≤ last) × ((s : ℕ) → t < s → s ≤ last → barredAt obstacles layer x y (toZ w32 dx) (toZ w32 dy) s ≡ true)
 
 abbrev μ-loop : tie.MeasureT-loop
-μ-loop obstacles x y dx dy last count t₀ t = t
+μ-loop obstacles layer x y dx dy last count t₀ t = t
 
 obstacle-count-requires : tie.Need-obstacle-count-requires Inv-loop μ-loop
 obstacle-count-requires c κs = search needs
@@ -36,40 +37,40 @@ at-step-requires-2 c κs =
     let s = c .before .before .before .before .before in
     rw (toZ-ofZ (s .fits .dy)) (reach-less (s .pre .1) (c .before .before .loop .inv .1))
 
-first-holding-requires : tie.Need-first-holding-requires Inv-loop μ-loop
-first-holding-requires c κs = search needs
+first-barring-requires : tie.Need-first-barring-requires Inv-loop μ-loop
+first-barring-requires c κs = search needs
 
 returns : tie.Need-returns Inv-loop μ-loop
-unfolding heldAt
+unfolding barredAt
 returns c =
     let s = c .before .before .before .before .before .before .before .before in
     let a = s .args in
     let inv = c .before .before .before .before .before .loop .inv in
-    let f = c .before .first-holding in
+    let f = c .before .first-barring in
     let x = rw (toZ-ofZ (s .fits .dx)) at (c .before .before .before .at-step .ensures) in
     let y = rw (toZ-ofZ (s .fits .dy)) at (c .before .before .at-step2 .ensures) in
     record {
       within = inv .1;
       free = λ p.
           rw (← x, ← y)
-          (first-none _ (f .result) (λ k. holds (now (a .obstacles)) k (c .before .before .before .at-step .result) (c .before .before .at-step2 .result)) (f .ensures .1) (omega (arith, c .if1 .taken)));
+          (first-none _ (f .result) (λ k. bars newest (now (a .obstacles)) (a .layer) k (c .before .before .before .at-step .result) (c .before .before .at-step2 .result)) (f .ensures .1) (omega (arith, c .if1 .taken)));
       above = λ t l m. rw (toZ-ofZ (s .fits .dx), toZ-ofZ (s .fits .dy)) at (inv .2 t l m);
     }
 
 last-below-requires : tie.Need-last-below-requires Inv-loop μ-loop
-last-below-requires c κs = omega (arith, c .before .first-holding .ensures .0, c .if1 .left)
+last-below-requires c κs = omega (arith, c .before .first-barring .ensures .0, c .if1 .left)
 
 leap : (c : tie.After-last-below Inv-loop μ-loop) →
     let a = c .before .before .before .before .before .before .before .before .before .args in
     (c .last-below .result < c .before .before .before .before .before .before .loop .t)
-    × ((s : ℕ) → c .last-below .result < s → s ≤ a .last → heldAt (now (a .obstacles)) (a .x) (a .y) (toZ w32 (ofZ w32 (a .dx))) (toZ w32 (ofZ w32 (a .dy))) s ≡ true)
+    × ((s : ℕ) → c .last-below .result < s → s ≤ a .last → barredAt (now (a .obstacles)) (a .layer) (a .x) (a .y) (toZ w32 (ofZ w32 (a .dx))) (toZ w32 (ofZ w32 (a .dy))) s ≡ true)
 leap c =
     let a = c .before .before .before .before .before .before .before .before .before .args in
     let inv = c .before .before .before .before .before .before .loop .inv in
-    let f = c .before .before .first-holding in
-    let inside : f .result < obstacleCount (now (a .obstacles)) = omega (arith, f .ensures .0, c .before .if1 .left) in
-    let held = rw (c .before .before .before .before .at-step .ensures, c .before .before .before .at-step2 .ensures) at (f .ensures .2 inside) in
-    leap-down (now (a .obstacles)) (f .result) (a .x) (a .y) (toZ w32 (ofZ w32 (a .dx))) (toZ w32 (ofZ w32 (a .dy))) inside held
+    let f = c .before .before .first-barring in
+    let inside : f .result < obstacleCount newest (now (a .obstacles)) = omega (arith, f .ensures .0, c .before .if1 .left) in
+    let barring = rw (c .before .before .before .before .at-step .ensures, c .before .before .before .at-step2 .ensures) at (f .ensures .2 inside) in
+    leap-down (now (a .obstacles)) (a .layer) (f .result) (a .x) (a .y) (toZ w32 (ofZ w32 (a .dx))) (toZ w32 (ofZ w32 (a .dy))) inside barring
     (c .before .before .before .before .before .loop-test .taken)
     (c .last-below .ensures)
     (inv .2)
@@ -102,7 +103,7 @@ highest-free-spec =
     loop-holds
     at-step-requires
     at-step-requires-2
-    first-holding-requires
+    first-barring-requires
     returns
     last-below-requires
     loop-less

@@ -1,6 +1,7 @@
 -- `points::lowest_free` meets its contract. Assumes nothing.
-use Rattle.points.specs.Geometry.{reach-less, heldAt, first-none, leap-up}
-use Rattle.net.specs.Net.{obstacleCount, holds}
+use Rattle.points.specs.Geometry.{reach-less, bars, barredAt, first-none, leap-up}
+use Rattle.net.specs.Layout.{newest}
+use Rattle.net.specs.Net.{obstacleCount}
 use denote.Ref.{now}
 use mir.Facts.{toZ-ofZ}
 use mir.Val.{toZ, ofZ}
@@ -14,11 +15,11 @@ use Rattle.points.proofs.lowest_free.Statement.{statement}
 use Rattle.points.proofs.lowest_free.Tie as tie
 
 abbrev Inv-loop : tie.InvT-loop
-Inv-loop obstacles x y dx dy first end count t₀ t =
-    (count ≡ obstacleCount obstacles) × (first ≤ t) × ((s : ℕ) → first ≤ s → s < t → heldAt obstacles x y (toZ w32 dx) (toZ w32 dy) s ≡ true)
+Inv-loop obstacles layer x y dx dy first end count t₀ t =
+    (count ≡ obstacleCount newest obstacles) × (first ≤ t) × ((s : ℕ) → first ≤ s → s < t → barredAt obstacles layer x y (toZ w32 dx) (toZ w32 dy) s ≡ true)
 
 abbrev μ-loop : tie.MeasureT-loop
-μ-loop obstacles x y dx dy first end count t₀ t = end - t
+μ-loop obstacles layer x y dx dy first end count t₀ t = end - t
 
 obstacle-count-requires : tie.Need-obstacle-count-requires Inv-loop μ-loop
 obstacle-count-requires c κs = search needs
@@ -38,16 +39,16 @@ at-step-requires-2 c κs =
     let l : c .before .before .loop .t ≤ s .args .end = omega arith in
     rw (toZ-ofZ (s .fits .dy)) (reach-less (s .pre .1) l)
 
-first-holding-requires : tie.Need-first-holding-requires Inv-loop μ-loop
-first-holding-requires c κs = search needs
+first-barring-requires : tie.Need-first-barring-requires Inv-loop μ-loop
+first-barring-requires c κs = search needs
 
 returns : tie.Need-returns Inv-loop μ-loop
-unfolding heldAt
+unfolding barredAt
 returns c =
     let s = c .before .before .before .before .before .before .before .before in
     let a = s .args in
     let inv = c .before .before .before .before .before .loop .inv in
-    let f = c .before .first-holding in
+    let f = c .before .first-barring in
     let x = rw (toZ-ofZ (s .fits .dx)) at (c .before .before .before .at-step .ensures) in
     let y = rw (toZ-ofZ (s .fits .dy)) at (c .before .before .at-step2 .ensures) in
     record {
@@ -55,7 +56,7 @@ returns c =
       within = λ p. c .before .before .before .before .loop-test .taken;
       free = λ p.
           rw (← x, ← y)
-          (first-none _ (f .result) (λ k. holds (now (a .obstacles)) k (c .before .before .before .at-step .result) (c .before .before .at-step2 .result)) (f .ensures .1) (omega (arith, c .if1 .taken)));
+          (first-none _ (f .result) (λ k. bars newest (now (a .obstacles)) (a .layer) k (c .before .before .before .at-step .result) (c .before .before .at-step2 .result)) (f .ensures .1) (omega (arith, c .if1 .taken)));
       below = λ t l m. rw (toZ-ofZ (s .fits .dx), toZ-ofZ (s .fits .dy)) at (inv .2 t l m);
       none = λ z t l m. let none : ⊥ = omega (arith, s .pre .2, inv .1) in absurd none;
     }
@@ -63,19 +64,19 @@ returns c =
 first-above-requires : tie.Need-first-above-requires Inv-loop μ-loop
 first-above-requires c κs =
     let s = c .before .before .before .before .before .before .before .before in
-    (omega (arith, c .before .first-holding .ensures .0, c .if1 .left), rw (toZ-ofZ (s .fits .dx)) (s .pre .0), rw (toZ-ofZ (s .fits .dy)) (s .pre .1))
+    (omega (arith, c .before .first-barring .ensures .0, c .if1 .left), rw (toZ-ofZ (s .fits .dx)) (s .pre .0), rw (toZ-ofZ (s .fits .dy)) (s .pre .1))
 
 leap : (c : tie.After-first-above Inv-loop μ-loop) →
     let a = c .before .before .before .before .before .before .before .before .before .args in
     (c .before .before .before .before .before .before .loop .t < c .first-above .result)
-    × ((s : ℕ) → a .first ≤ s → s < c .first-above .result → heldAt (now (a .obstacles)) (a .x) (a .y) (toZ w32 (ofZ w32 (a .dx))) (toZ w32 (ofZ w32 (a .dy))) s ≡ true)
+    × ((s : ℕ) → a .first ≤ s → s < c .first-above .result → barredAt (now (a .obstacles)) (a .layer) (a .x) (a .y) (toZ w32 (ofZ w32 (a .dx))) (toZ w32 (ofZ w32 (a .dy))) s ≡ true)
 leap c =
     let a = c .before .before .before .before .before .before .before .before .before .args in
     let inv = c .before .before .before .before .before .before .loop .inv in
-    let f = c .before .before .first-holding in
-    let inside : f .result < obstacleCount (now (a .obstacles)) = omega (arith, f .ensures .0, c .before .if1 .left) in
-    let held = rw (c .before .before .before .before .at-step .ensures, c .before .before .before .at-step2 .ensures) at (f .ensures .2 inside) in
-    leap-up (now (a .obstacles)) (f .result) (a .x) (a .y) (toZ w32 (ofZ w32 (a .dx))) (toZ w32 (ofZ w32 (a .dy))) inside held
+    let f = c .before .before .first-barring in
+    let inside : f .result < obstacleCount newest (now (a .obstacles)) = omega (arith, f .ensures .0, c .before .if1 .left) in
+    let barring = rw (c .before .before .before .before .at-step .ensures, c .before .before .before .at-step2 .ensures) at (f .ensures .2 inside) in
+    leap-up (now (a .obstacles)) (a .layer) (f .result) (a .x) (a .y) (toZ w32 (ofZ w32 (a .dx))) (toZ w32 (ofZ w32 (a .dy))) inside barring
     (c .before .before .before .before .before .loop-test .taken)
     (c .first-above .ensures)
     (inv .2)
@@ -110,7 +111,7 @@ lowest-free-spec =
     loop-holds
     at-step-requires
     at-step-requires-2
-    first-holding-requires
+    first-barring-requires
     returns
     first-above-requires
     loop-less

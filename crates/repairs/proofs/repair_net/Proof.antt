@@ -11,7 +11,7 @@ use borrow.Author.Needs.{needs}
 use Rattle.laws.specs.Lists.{over}
 use Rattle.net.specs.declared.Refusal.{Refusal}
 use Rattle.net.specs.Net.{nodeCount}
-use Rattle.net.specs.Layout.{entryBytes, mostNodes}
+use Rattle.net.specs.Layout.{newest, entryBytes, mostNodes}
 use Rattle.net.specs.Stage.{stageOf}
 use Rattle.net.specs.Refusal.{answer}
 use Rattle.net.specs.Accepted.{NetRight, net-right}
@@ -114,8 +114,8 @@ abbrev CutHigh : tie.After-choose → List Bool
 CutHigh c = c .choose .last .1 .1 .1 .1 .1 .1 .1 .1 .1 .1 .1 .0
 
 -- ---- what holds of them
-right : (s : tie.Start) → NetRight (now (s .args .nodes)) (now (s .args .wires)) (now (s .args .obstacles))
-right s = net-right (now (s .args .nodes)) (now (s .args .wires)) (now (s .args .obstacles)) (s .pre)
+right : (s : tie.Start) → NetRight newest (now (s .args .nodes)) (now (s .args .wires)) (now (s .args .obstacles))
+right s = net-right newest (now (s .args .nodes)) (now (s .args .wires)) (now (s .args .obstacles)) (s .pre)
 
 few : (s : tie.Start) → nodeCount (now (s .args .nodes)) ≤ mostNodes
 few s = right s .sized .few-nodes
@@ -187,7 +187,7 @@ worked d =
     (d .count-pass .ensures)
 
 -- the fewest points, before they are chosen
-plan : (d : tie.After-count-pass) → (cutHigh : List Bool) × Planned (stageOf (Nodes (at d)) (Wires (at d)) (Obstacles (at d)) (Stage (at d))) (Limit (at d)) (Hi (at d)) (Near d) cutHigh (Points d)
+plan : (d : tie.After-count-pass) → (cutHigh : List Bool) × Planned (stageOf newest (Nodes (at d)) (Wires (at d)) (Obstacles (at d)) (Stage (at d))) (Limit (at d)) (Hi (at d)) (Near d) cutHigh (Points d)
 plan d =
     let t = at d in
     planned-some (Nodes t) (Wires t) (Obstacles t) (Stage t) (right (start t)) (Lo t) (Hi t) (Root t) (Host t) (Component t) (Sourced t) (Fixed t) (Gates t) (first t)
@@ -201,7 +201,7 @@ points-few d =
 
 -- the points chosen
 chosen : (u : tie.After-choose) →
-    Planned (stageOf (Nodes (at (counted (roomy u)))) (Wires (at (counted (roomy u)))) (Obstacles (at (counted (roomy u)))) (Stage (at (counted (roomy u))))) (Limit (at (counted (roomy u))))
+    Planned (stageOf newest (Nodes (at (counted (roomy u)))) (Wires (at (counted (roomy u)))) (Obstacles (at (counted (roomy u)))) (Stage (at (counted (roomy u))))) (Limit (at (counted (roomy u))))
     (Hi (at (counted (roomy u)))) (Near (counted (roomy u))) (CutHigh u) (Points (counted (roomy u)))
 chosen u =
     let d = counted (roomy u) in
@@ -210,7 +210,7 @@ chosen u =
     (Limit t) (CutAny d) (AnyOk d) (AnyWeight d) (HasUngated d) (Near d) (Fewest d) (Points d) (worked d)
     (u .choose .ensures .0) (CutHigh u) (λ r p. u .choose .ensures .1 r (omega (arith, nodes-are t)))
 
-stage-nodes : (t : tie.After-first-passes) → N t ≡ stageOf (Nodes t) (Wires t) (Obstacles t) (Stage t) .nodes
+stage-nodes : (t : tie.After-first-passes) → N t ≡ stageOf newest (Nodes t) (Wires t) (Obstacles t) (Stage t) .nodes
 unfolding stageOf
 stage-nodes t = nodes-are t
 

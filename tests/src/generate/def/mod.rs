@@ -63,12 +63,17 @@ fn good_obstacles(random: &mut Random) -> Vec<u8> {
     section
 }
 
-/// The section has a wrong length, or corners in a wrong order, or nearly so.
+/// The section has a wrong length or width, or corners in a wrong order, or nearly so.
 fn damage_obstacles(random: &mut Random, section: &mut Vec<u8>) {
-    match random.below(5) {
+    match random.below(6) {
         0 => section.push(0),
         1 => section.truncate(section.len().saturating_sub(3)),
         2 => section.resize(8 * random.range(255, 258) as usize, 0),
+        // nines, as in version 2
+        3 => {
+            let nines = section.chunks(8).flat_map(|o| [o, &[16]].concat());
+            *section = nines.collect();
+        }
         _ if !section.is_empty() => {
             let k = 8 * random.below(section.len() as u64 / 8) as usize;
             section[k..k + 8].reverse();

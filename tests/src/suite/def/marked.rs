@@ -25,7 +25,7 @@ pub fn done(def: Def, text: &str, nodes: &[(u8, u8)], wires: &[(u8, u8)]) {
     let (case, place) = marked(text);
     let nodes: Vec<u8> = nodes.iter().flat_map(|&(x, y)| [x, 0, y, 0, 0]).collect();
     let wires: Vec<u8> = wires.iter().flat_map(|&(p, layer)| [p, layer, 1]).collect();
-    let expected = file(&nodes, &wires, &[]);
+    let expected = file(1, &nodes, &wires, &[]);
     assert_eq!(compare(def, &case, ENOUGH).place, place as u64, "{text:?}");
     let mut out = vec![0; expected.len()];
     let answer = def(&case.text, 0, &[], &[], &mut out);

@@ -52,7 +52,7 @@ pub const ENOUGH: usize = 28 + 5 * 256 + 3 * 255 + 8 * 256;
 /// Random calls, good and damaged, and buffers near the need; every refusal that can be met is met often.
 pub fn random_texts(def: Def, cases: usize) {
     let mut random = Random::new(80);
-    let mut met = [0usize; 20];
+    let mut met = [0usize; 21];
     for _ in 0..cases {
         let case = any_case(&mut random);
         let needed = needed(&case);

@@ -219,6 +219,15 @@ fn order(def: Def) {
         Answer::refused(6, 0)
     );
     assert_eq!(with(def, TWO, &[], &obstacles[8..], ENOUGH).number, 0);
+    // obstacles are those of version 1: nines are not taken, and of eight of them no byte is a layer
+    let nine = [0, 0, 0, 0, 0, 0, 0, 0, 17];
+    assert_eq!(with(def, TWO, &[], &nine, ENOUGH), Answer::refused(6, 0));
+    assert_eq!(with(def, TWO, &[], &[0; 72], ENOUGH).number, 0);
+    let obstacles = nine.repeat(8);
+    assert_eq!(
+        with(def, TWO, &[], &obstacles, ENOUGH),
+        Answer::refused(11, 1)
+    );
     // text, pins, obstacles and buffer of no bytes
     assert_eq!(with(def, "", &[], &[], 0), Answer::refused(17, 0));
     assert_eq!(with(def, TWO, &[], &[], 0), Answer::refused(16, 41));

@@ -5,6 +5,7 @@ use native.Mathlib.Omega.{arith}
 use lib.ListN.{length, getD, length-set}
 use denote.Ref.{now}
 use borrow.Author.Needs.{needs}
+use Rattle.net.specs.Layout.{newest}
 use Rattle.net.specs.Stage.{stageOf}
 use Rattle.clusters.specs.FirstPasses.{LowestFree, HighestFree}
 use Rattle.clusters.specs.Turns.{filled-all}
@@ -14,8 +15,8 @@ use Rattle.clusters.proofs.cuttable.find_cuttable.Tie as tie
 abbrev Inv-loop : tie.InvT-loop
 Inv-loop nodes wires obstacles stage lo₀ hi₀ n i₀ lo hi i =
     (i ≤ n) × (length lo ≡ length lo₀) × (length hi ≡ length hi₀)
-    × ((j : ℕ) → j < i → LowestFree (stageOf nodes wires obstacles stage) j (getD lo j 0))
-    × ((j : ℕ) → j < i → HighestFree (stageOf nodes wires obstacles stage) j (getD hi j 0))
+    × ((j : ℕ) → j < i → LowestFree (stageOf newest nodes wires obstacles stage) j (getD lo j 0))
+    × ((j : ℕ) → j < i → HighestFree (stageOf newest nodes wires obstacles stage) j (getD hi j 0))
 
 abbrev μ-loop : tie.MeasureT-loop
 μ-loop nodes wires obstacles stage lo₀ hi₀ n i₀ lo hi i = n - i
@@ -60,7 +61,7 @@ loop-again : tie.Need-loop-again Inv-loop μ-loop
 loop-again c =
     let l = c .before .before .before .loop in
     let a = c .before .before .before .before .before .before .before .before .before .before .args in
-    let s = stageOf (now (a .nodes)) (now (a .wires)) (now (a .obstacles)) (a .stage) in (
+    let s = stageOf newest (now (a .nodes)) (now (a .wires)) (now (a .obstacles)) (a .stage) in (
       omega arith,
       length-set (l .lo) (l .i) (c .before .lowest-of .result) ∙ l .inv .1,
       length-set (l .hi) (l .i) (c .highest-of .result) ∙ l .inv .2,

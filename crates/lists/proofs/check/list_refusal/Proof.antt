@@ -13,13 +13,13 @@ use Rattle.lists.proofs.check.list_refusal.Statement.{statement}
 use Rattle.lists.proofs.check.list_refusal.Tie as tie
 
 abbrev Inv-loop : tie.InvT-loop
-Inv-loop stage nodes wires obstacles list count e₀ e =
+Inv-loop version stage nodes wires obstacles list count e₀ e =
     (e ≤ count)
     × (count ≡ entryCount list)
-    × (none ≡ firstOf e (λ d. entryRefusal (stageOf nodes wires obstacles stage) list d))
+    × (none ≡ firstOf e (λ d. entryRefusal (stageOf version nodes wires obstacles stage) list d))
 
 abbrev μ-loop : tie.MeasureT-loop
-μ-loop stage nodes wires obstacles list count e₀ e = count - e
+μ-loop version stage nodes wires obstacles list count e₀ e = count - e
 
 refused-requires : tie.Need-refused-requires Inv-loop μ-loop
 refused-requires c κs = search needs

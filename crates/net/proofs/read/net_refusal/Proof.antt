@@ -31,7 +31,7 @@ returns-2 c =
 wires-refusal-requires : tie.Need-wires-refusal-requires
 wires-refusal-requires c κs =
     let s = c .before .before .before .before .before .sections-refusal in
-    sized-of _ _ _ (ap met (sym (s .ensures)) ∙ unmet-number (s .result) (c .before .before .before .if1 .left)) .wires-length
+    sized-of _ _ _ _ (ap met (sym (s .ensures)) ∙ unmet-number (s .result) (c .before .before .before .if1 .left)) .wires-length
 
 returns-3 : tie.Need-returns-3
 unfolding netRefusal

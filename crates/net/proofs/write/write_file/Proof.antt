@@ -54,11 +54,11 @@ returns c =
     let ns = a .nodes .now in
     let ws = a .wires .now in
     let os = a .obstacles .now in
-    let head = headOf (length ns) (length ws) (length os) in
+    let head = headOf (a .version) (length ns) (length ws) (length os) in
     let s =
     over-lent head ns l _ _ headBytes (c .before .before .before .before .before .before .before .before .before .before .write-head .ensures)
-    (head-length (length ns) (length ws) (length os)) (omega arith) (c .before .before .before .before .before .before .copy .ensures) in
-    over-lent (head ++ ns) (ws ++ os) l _ _ (headBytes + length ns) s (wires-after ns ws os) (omega arith) (c .before .before .copy-two .ensures)
+    (head-length (a .version) (length ns) (length ws) (length os)) (omega arith) (c .before .before .before .before .before .before .copy .ensures) in
+    over-lent (head ++ ns) (ws ++ os) l _ _ (headBytes + length ns) s (wires-after (a .version) ns ws os) (omega arith) (c .before .before .copy-two .ensures)
     ∙ ap (λ (p : List ℕ). over p l) (sym (append-assoc (head ++ ns) ws os))
 
 pub write-file-spec : {M : Type 1} → statement M

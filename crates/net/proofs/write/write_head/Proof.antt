@@ -46,7 +46,7 @@ unfolding headOf
 returns c =
     let a = c .before .before .before .before .before .before .before .before .before .before .before .before .before .args in
     let l = a .out .now in
-    let p1 = bytes16 1 in
+    let p1 = bytes16 (a .version) in
     let p2 = bytes16 3 in
     let p3 = pairsOf (a .nodes) (a .wires) (a .obstacles) in
     let s = over-lent p1 p2 l _ _ 2 (c .before .before .before .before .before .before .before .before .before .before .put16 .ensures) refl (omega arith) (c .before .before .before .before .before .before .put162 .ensures) in

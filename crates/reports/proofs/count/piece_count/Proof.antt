@@ -29,11 +29,11 @@ returns c =
     let n = c .before .before .node-count .ensures in
     let e = c .entry-count .ensures in
     let nodes : Bytes (s .args .nodes .now) = λ j. omega (arith, c .before .before .before .before .before .shared-slice-known .given j) in
-    let few = entries-few (s .args .nodes .now) (s .args .wires .now) (s .pre .0) (s .args .stage) (s .args .jumpers .now) (s .pre .1 .right) nodes (s .pre .1 .listed) in (
-      λ os j.
+    let few = entries-few (s .pre .0) (s .args .nodes .now) (s .args .wires .now) (s .pre .1) (s .args .stage) (s .args .jumpers .now) (s .pre .2 .right) nodes (s .pre .2 .listed) in (
+      λ v os j.
           rw (e, n)
-          (count-is (s .args .nodes .now) (s .args .wires .now) (s .args .jumpers .now) os (s .args .stage) (c .before .present-count .result) j (rw n at (c .before .present-count .ensures .0))),
-      omega (arith, s .pre .1 .right .sized .few-nodes, few),
+          (count-is v (s .args .nodes .now) (s .args .wires .now) (s .args .jumpers .now) os (s .args .stage) (c .before .present-count .result) j (rw n at (c .before .present-count .ensures .0))),
+      omega (arith, s .pre .2 .right .sized .few-nodes, few),
     )
 
 pub piece-count-spec : {M : Type 1} → statement M

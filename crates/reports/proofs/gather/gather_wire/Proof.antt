@@ -80,8 +80,8 @@ returns c =
     let absent = sym (t .before .is-present .ensures) ∙ not-true _ (t .if1 .taken) in (
       reached (t .before .before),
       at-more (a .i * (2 * wireWeightBound)) ((a .i + 1) * (2 * wireWeightBound)) (a .weight .now) (omega arith) (s .pre .1 .1 .0 .1),
-      λ os j.
-          step-absent (a .nodes .now) (a .wires .now) (a .jumpers .now) os (a .stage) j (a .i) (s .pre .1 .0 .0) (s .pre .1 .1 .1 os j)
+      λ v os j.
+          step-absent v (a .nodes .now) (a .wires .now) (a .jumpers .now) os (a .stage) j (a .i) (s .pre .1 .0 .0) (s .pre .1 .1 .1 v os j)
           (flags .result) (flags .ensures) absent (n .name-node .ensures),
     )
 
@@ -113,8 +113,8 @@ returns-2 c =
     let a = s .args in (
       reached f,
       w .join-wire .ensures .1,
-      λ os j.
-          step-joined (a .nodes .now) (a .wires .now) (a .jumpers .now) os (a .stage) j (a .i) (s .pre .1 .0 .0) (s .pre .1 .1 .1 os j)
+      λ v os j.
+          step-joined v (a .nodes .now) (a .wires .now) (a .jumpers .now) os (a .stage) j (a .i) (s .pre .1 .0 .0) (s .pre .1 .1 .1 v os j)
           (present (t .before)) (a .e) (f .entries-end .result) (entries f) (t .if2 .taken) (w .join-wire .ensures .0),
     )
 
@@ -135,7 +135,7 @@ part-wire-requires c κs =
     let s = start f in
     let a = s .args in
     let end = f .entries-end .result in
-    let inside = entry-inside (a .nodes .now) (a .wires .now) (a .jumpers .now) (s .pre .0 .0) (a .stage) (s .pre .0 .1) (a .i) (a .e) end (entries f) in (
+    let inside = entry-inside (s .pre .0 .0) (a .nodes .now) (a .wires .now) (a .jumpers .now) (s .pre .0 .1) (a .stage) (s .pre .0 .2) (a .i) (a .e) end (entries f) in (
       wire-ready (a .nodes .now) (a .wires .now) (a .jumpers .now) (a .stage) (s .pre .0) (a .i) (s .pre .1 .0 .0) (s .pre .1 .1 .0 .0) (s .pre .1 .1 .0 .1) (s .pre .1 .1 .1) (present (z .before)),
       (omega (arith, q .before .entry-position .ensures, inside (a .e) (omega arith) (cut z) .1), omega (arith, q .entry-position2 .ensures, inside (end - 1) (omega (arith, cut z)) (omega (arith, cut z)) .1)),
     )
@@ -162,8 +162,8 @@ returns-3 c =
     let a = s .args in (
       reached f,
       w .part-wire .ensures .1,
-      λ os j.
-          step-cut (a .nodes .now) (a .wires .now) (a .jumpers .now) os (a .stage) j (a .i) (s .pre .1 .0 .0) (s .pre .1 .1 .1 os j)
+      λ v os j.
+          step-cut v (a .nodes .now) (a .wires .now) (a .jumpers .now) os (a .stage) j (a .i) (s .pre .1 .0 .0) (s .pre .1 .1 .1 v os j)
           (present (z .before)) (a .e) (f .entries-end .result) (entries f) (cut z)
           (parted-at (q .before .entry-position .ensures) (q .entry-position2 .ensures) (w .part-wire .ensures .0)),
     )

@@ -27,7 +27,7 @@ slice-aggregate-gather-4 c = search needs
 gather-requires : tie.Need-gather-requires
 gather-requires c κs =
     let p = start c .pre .0 in
-    let few = p .1 .right .sized .few-nodes in
+    let few = p .2 .right .sized .few-nodes in
     (p, (record { lowests = few; weights = few; flagged = few; layered = few }, (zeros-most mostNodes, zeros-most mostNodes, zeros-most mostNodes)))
 
 slice-aggregate-write-records : tie.Need-slice-aggregate-write-records
@@ -46,7 +46,7 @@ write-records-requires : tie.Need-write-records-requires
 write-records-requires c κs =
     let g = c .before .before .before .before .before .before .before .before .before in
     let p = start (g .before) .pre in
-    let few = p .0 .1 .right .sized .few-nodes in
+    let few = p .0 .2 .right .sized .few-nodes in
     let k = g .gather .kept .1 .1 .1 .1 in
     (p .0, (record { lowests = omega (arith, few, k .0); weights = omega (arith, few, k .1 .0); flagged = omega (arith, few, k .1 .1 .0); layered = omega (arith, few, k .1 .1 .1 .0) }, (g .gather .ensures, p .1)))
 
@@ -54,11 +54,11 @@ same-length : tie.Need-same-length
 same-length c = search needs
 
 returns : tie.Need-returns
-returns c = λ os j.
+returns c = λ v os j.
     let w = c .before .before in
     let a = start (w .before .before .before .before .before .before .before .before .before .before .before) .args in
-    w .write-records .ensures os j
-    ∙ pieces-placed (stageOf (a .nodes .now) (a .wires .now) os (a .stage)) (a .limit) (a .jumpers .now) (a .out .now)
+    w .write-records .ensures v os j
+    ∙ pieces-placed (stageOf v (a .nodes .now) (a .wires .now) os (a .stage)) (a .limit) (a .jumpers .now) (a .out .now)
 
 pub write-pieces-spec : {M : Type 1} → statement M
 write-pieces-spec =
