@@ -180,7 +180,9 @@ antenna_answer antenna_repair(uint32_t stage, uint32_t limit,
  * that point. All factors are 1.
  *
  * Pins: x, y (16 bits each), layer, flags (8 bits each); pins on one node join
- * their flags. Obstacles: the section as in a net file of version 1.
+ * their flags. Obstacles: the section as in a net file of version 1; for
+ * obstacles with layers give none here, and the node and wire sections of the
+ * file to antenna_write.
  *
  * Time: a text of more than 256 nodes is refused by 4 once all of it is read,
  * and behind the 256th each point, and each pin, has the text read again.

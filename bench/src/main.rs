@@ -44,7 +44,7 @@ fn print(what: &str, calls: usize, nodes: usize, fastest: Fastest) {
     );
 }
 
-/// Nets of one kind, each with a limit that asks for some jumpers.
+/// Nets of one kind, each with a limit.
 struct Kind {
     name: String,
     version: u32,
@@ -52,39 +52,59 @@ struct Kind {
     nets: Vec<(Net, u32)>,
 }
 
-/// 50 nets of one size; each has as many obstacles as one of these.
-fn kind(name: String, version: u32, nodes: usize, obstacles: &[usize]) -> Kind {
-    let mut random = Random::new(nodes as u64);
-    let mut one = || {
-        let shape = Shape {
-            version,
-            nodes,
-            longest: random.pick(&[10, 100, 200]),
-            obstacles: random.pick(obstacles),
-        };
-        let net = net(&mut random, shape);
-        let limit = net.total_weight() / random.range(2, 2 + nodes as u64 / 4);
-        (net, limit as u32)
-    };
-    Kind {
-        nets: (0..50).map(|_| one()).collect(),
-        name,
+/// How many nets a kind has.
+const NETS: usize = 50;
+
+/// A net with as many obstacles as one of these, and a limit: its weight divided by 2 or more, up to `parts`.
+fn case(
+    random: &mut Random,
+    version: u32,
+    nodes: usize,
+    obstacles: &[usize],
+    parts: u64,
+) -> (Net, u32) {
+    let shape = Shape {
         version,
         nodes,
+        longest: random.pick(&[10, 100, 200]),
+        obstacles: random.pick(obstacles),
+    };
+    let net = net(random, shape);
+    let limit = net.total_weight() / random.range(2, parts);
+    (net, limit as u32)
+}
+
+fn of_size(nodes: usize) -> Kind {
+    let mut random = Random::new(nodes as u64);
+    let obstacles = [0, nodes / 16, nodes / 4];
+    let parts = 2 + nodes as u64 / 4;
+    let one = |_| case(&mut random, 1, nodes, &obstacles, parts);
+    Kind {
+        name: format!("{nodes} nodes"),
+        version: 1,
+        nodes,
+        nets: (0..NETS).map(one).collect(),
+    }
+}
+
+/// Nets with the most obstacles, each repaired by some jumpers: most such nets need none, or no set will do.
+fn of_most_obstacles(version: u32, name: &str) -> Kind {
+    let mut random = Random::new(256);
+    let cases = std::iter::repeat_with(|| case(&mut random, version, 256, &[256], 4));
+    let with_jumpers = cases.filter(|(net, limit)| !repaired(net, *limit).is_empty());
+    Kind {
+        name: format!("256 nodes, 256 obstacles{name}"),
+        version,
+        nodes: 256,
+        nets: with_jumpers.take(NETS).collect(),
     }
 }
 
 /// Nets of each size, and those with the most obstacles, in either version.
 fn kinds() -> Vec<Kind> {
-    let of_size = |nodes: usize| {
-        let obstacles = [0, nodes / 16, nodes / 4];
-        kind(format!("{nodes} nodes"), 1, nodes, &obstacles)
-    };
     let mut kinds: Vec<Kind> = SIZES.into_iter().map(of_size).collect();
-    for (version, name) in [(1, ""), (2, " with layers")] {
-        let name = format!("256 nodes, 256 obstacles{name}");
-        kinds.push(kind(name, version, 256, &[256]));
-    }
+    kinds.push(of_most_obstacles(1, ""));
+    kinds.push(of_most_obstacles(2, " with layers"));
     kinds
 }
 

@@ -52,8 +52,8 @@ pub const DRAW: &str = "\
 antenna draw NET --limit L [--stage S] [--jumpers FILE] [-o FILE]
 
 Draws the net as SVG: wires coloured by layer, vias, harmful pieces with their weights, gates, sources, obstacles, jumpers. Wires
-that the stage does not have are broken lines. Obstacles of version 2 have their layer on them (L3 is layer 3) and are faint where
-the stage's wires lie above them.
+that the stage does not have are broken lines. Obstacles of version 2 have their layer on them (L3 is layer 3) and are faint if they
+do not count for the stage's wires.
   --jumpers FILE   as in 'report'
   -o FILE          or --output FILE: where the picture goes, standard output if it is not given
 Exit status 1 if a piece is harmful; the picture is written all the same.
@@ -73,7 +73,9 @@ In version 1 an obstacle has no 'layer' and bars points of every wire.
 pub const UNPACK: &str = "\
 antenna unpack NET [-o FILE]
 
-Turns a net file into text form (see 'antenna pack --help').
+Turns a net file into text form (see 'antenna pack --help'). To give the obstacles of a net of version 1 layers, put the line
+'version 2' in front of its text, write 'layer L' behind each obstacle, L being 16 where it shall still bar points of every wire,
+and pack the text.
 ";
 
 pub const DEF: &str = "\
@@ -86,7 +88,8 @@ because the library's form cannot say two changes of layer there: one point of e
                    and '$' are '%' and two digits of base 16
   --grid N         a step is N units of FILE, and every coordinate a multiple of N
   --pins FILE      a line 'pin NET at X Y LAYER' for each, then 'gate' and 'source' where they hold; without pins no net has a gate
-  --obstacles FILE a line 'obstacle X1 Y1 to X2 Y2' for each; they bar points of every wire (net files of version 1)
+  --obstacles FILE a line 'obstacle X1 Y1 to X2 Y2' for each; they bar points of every wire (net files of version 1; 'antenna
+                   unpack --help' says how to give them layers)
   --text           prints the nets that are read in the library's form
 Pins and obstacles have the coordinates of FILE. All nets are moved alike: the lower left corner of the die area becomes 0 0.
 Exit status 2 if a net is not read; a note does not change it.

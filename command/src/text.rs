@@ -53,7 +53,10 @@ fn record(sections: &mut Sections, line: usize, words: &[&str]) -> Result<(), St
         ["wire", ..] => return Err("a wire is 'wire N to PARENT layer L factor F'".into()),
         ["obstacle", ..] => return Err(obstacle_form(sections.version)),
         ["jumpers", _] => return Err("this is a jumper list: name it by --jumpers".into()),
-        _ => return Err(format!("'{}' is no node, wire or obstacle", words[0])),
+        _ => {
+            let word = words[0];
+            return Err(format!("'{word}' is no version, node, wire or obstacle"));
+        }
     }
     Ok(())
 }
@@ -84,7 +87,7 @@ fn obstacle_layer(version: u32, words: &[&str]) -> Result<Option<u8>, String> {
         }
         (true, ["layer", layer]) => byte(layer).map(Some),
         (true, []) => Err(format!(
-            "its layer is missing: in version {version} {}",
+            "its layer is missing: in version {version} {}, and layer 16 bars points of every wire, as in version 1",
             obstacle_form(version)
         )),
         _ => Err(obstacle_form(version)),

@@ -110,7 +110,7 @@ fn refusal(answer: Answer) -> String {
     let (what, advice) = match answer.number {
         library::REFUSED_STAGE => ("the stage is not 1 to 16".into(), "give --stage a number from 1 to 16"),
         library::REFUSED_HEAD => (
-            "this is no net file: it has under 28 bytes, or its version is not 1 or 2, or its pair count is not 3".into(),
+            "its version is not 1 or 2, or this is no net file: it has under 28 bytes, or its pair count is not 3".into(),
             "name a net file, or a net in text form, of version 1 or 2",
         ),
         library::REFUSED_PAIRS => (
@@ -123,8 +123,8 @@ fn refusal(answer: Answer) -> String {
             "give every node above 0 one wire",
         ),
         library::REFUSED_OBSTACLE_SECTION => (
-            "there are not at most 256 obstacles of 8 bytes, in version 2 of 9".into(),
-            "merge obstacles, or leave out those off the net",
+            "there are over 256 obstacles, or they are not of 8 bytes each in version 1, of 9 in version 2".into(),
+            "merge obstacles, or leave out those off the net; if only the version was changed, write the file anew",
         ),
         library::REFUSED_NODE_FLAGS => (
             format!("node {place}: its flags are over 3"),

@@ -522,6 +522,9 @@ fn refused_in_each_command() {
         b"node 0 at 0 0\nnode 1 at 5 5\nwire 1 to 0 layer 1 factor 1\n",
     );
     let short = stored("two.net", &[1, 0, 3]);
+    let mut newer = antenna(&["pack", "straps.net"], &[]).out;
+    newer[0] = 3;
+    let newer = stored("newer.net", &newer);
     let stage = ["--limit=13", "--stage=17"];
     for (name, options) in [
         ("report", &["--limit=13"][..]),
@@ -541,6 +544,10 @@ fn refused_in_each_command() {
                 "ten.net:3: refused 10 1",
             ),
             ([&[name, &short], options].concat(), "two.net: refused 2 0"),
+            (
+                [&[name, &newer], options].concat(),
+                "newer.net: refused 2 0",
+            ),
         ];
         if !options.is_empty() {
             let words = [&[name, "a.net"], &stage[..], &options[1..]].concat();
@@ -587,7 +594,10 @@ fn texts_that_say_no_net() {
             "-:1: '70000' is no number from 0 to 65535",
         ),
         ("node 0 at 0 0 gaet", "-:1: 'gaet' is neither"),
-        ("# a net\nnod 0 at 0 0", "-:2: 'nod' is no node"),
+        (
+            "# a net\nnod 0 at 0 0",
+            "-:2: 'nod' is no version, node, wire or obstacle",
+        ),
         ("node 0 0 0", "-:1: a node is"),
         (
             "jumpers 1\n1 6\n",

@@ -2,7 +2,7 @@
 
 use antenna_tests::random::Random;
 use antenna_tests::suite::fuzz::{mutate, one, seed, Made};
-use std::collections::BTreeSet;
+use std::collections::{BTreeMap, BTreeSet};
 use std::path::Path;
 
 /// The call and the number of an answer stand in front of most names.
@@ -12,21 +12,29 @@ fn by_name(name: &str) -> Option<(u8, u32)> {
     Some((call.parse().ok()?, number.parse().ok()?))
 }
 
-/// The numbers that each call can answer with in version 2. Def's nets are of version 1.
-const IN_VERSION_2: [&[u32]; 5] = [
+/// The numbers that each call can answer with, 20 in version 2 alone. Def's nets are of version 1.
+const ANSWERS: [&[u32]; 5] = [
     &[0, 2, 3, 4, 5, 6, 7, 8, 9, 10, 11, 20],
     &[0, 4, 5, 6, 7, 8, 9, 10, 11, 16, 20],
     &[0, 1, 2, 3, 4, 5, 6, 7, 8, 9, 10, 11, 12, 13, 14, 16, 20],
     &[0, 1, 2, 3, 4, 5, 6, 7, 8, 9, 10, 11, 15, 20],
-    &[],
+    &[0, 4, 6, 7, 10, 11, 16, 17, 18, 19],
 ];
-const OF_DEF: [u32; 10] = [0, 4, 6, 7, 10, 11, 16, 17, 18, 19];
+
+fn answers(call: u8, version: u32) -> BTreeSet<u32> {
+    let can = |number: &u32| match version {
+        1 => *number != 20,
+        _ => call != 4,
+    };
+    let all = ANSWERS[usize::from(call)].iter().copied();
+    all.filter(can).collect()
+}
 
 #[test]
 fn corpus() {
     let folder = Path::new(env!("CARGO_MANIFEST_DIR")).join("corpus");
-    let (mut count, mut of_def) = (0, BTreeSet::new());
-    let mut in_version_2: [BTreeSet<u32>; 5] = Default::default();
+    let mut count = 0;
+    let mut met: BTreeMap<(u8, u32), BTreeSet<u32>> = BTreeMap::new();
     for entry in std::fs::read_dir(folder).unwrap() {
         let path = entry.unwrap().path();
         let Made {
@@ -37,20 +45,25 @@ fn corpus() {
         let name = path.file_name().unwrap().to_str().unwrap();
         if let Some(named) = by_name(name) {
             assert_eq!((call, answer.number), named, "{name}");
-            if call == 4 {
-                of_def.insert(answer.number);
-            }
-            if name.contains("-version-2-") {
-                assert_eq!(version, 2, "{name}");
-                in_version_2[usize::from(call)].insert(answer.number);
-            }
         }
+        if name.contains("-version-2-") {
+            assert_eq!(version, 2, "{name}");
+        }
+        met.entry((call, version))
+            .or_default()
+            .insert(answer.number);
         count += 1;
     }
     assert!(count > 50);
-    assert!(of_def.into_iter().eq(OF_DEF));
-    for (met, can) in in_version_2.iter().zip(IN_VERSION_2) {
-        assert!(met.iter().eq(can), "{met:?}, not {can:?}");
+    for call in 0..5 {
+        for version in [1, 2] {
+            let met = met.remove(&(call, version)).unwrap_or_default();
+            assert_eq!(
+                met,
+                answers(call, version),
+                "call {call}, version {version}"
+            );
+        }
     }
 }
 

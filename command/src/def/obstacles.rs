@@ -13,7 +13,7 @@ pub fn load(name: &str, scale: &Scale) -> Result<Vec<Obstacle>, Refusal> {
     let mut obstacles = Vec::new();
     each_line(name, |_, words| {
         let ["obstacle", x1, y1, "to", x2, y2] = words else {
-            return Err("an obstacle is 'obstacle X1 Y1 to X2 Y2'".into());
+            return Err("an obstacle is 'obstacle X1 Y1 to X2 Y2', and has no layer here".into());
         };
         let (x1, x2) = (coordinate(x1)?, coordinate(x2)?);
         let (y1, y2) = (coordinate(y1)?, coordinate(y2)?);

@@ -34,7 +34,7 @@ impl Item {
             Item::Harm => "harmful, with its weight".into(),
             Item::Obstacle => "obstacle".into(),
             Item::LayeredObstacle => "obstacle, with its layer".into(),
-            Item::FaintObstacle => "obstacle of a lower layer, does not count".into(),
+            Item::FaintObstacle => "obstacle that does not count at this stage".into(),
             Item::Factor => "factor over 1".into(),
             Item::Layer(layer) => format!("layer {layer}"),
             Item::AbsentLayer(layer) => format!("layer {layer}, not made yet"),

@@ -6,7 +6,7 @@ use crate::sections::write_wires;
 use net::Answer;
 use net::answers::answered;
 use net::answers::refused;
-use net::layout::FIRST;
+use net::layout::FIRST_VERSION;
 use net::layout::HEAD_BYTES;
 use net::layout::MOST_NODES;
 use net::layout::NODE_BYTES;
@@ -86,7 +86,7 @@ fn write_sections(
 ) -> Answer
     ensures { λ r. ⌜ Ended (now (nodes .entry)) (now (wires .entry)) (now (obstacles .entry)) stop (now (out .entry)) r (now (out .exit)) ⌝ }
 {
-    let r = net_refusal(FIRST, nodes, wires, obstacles);
+    let r = net_refusal(FIRST_VERSION, nodes, wires, obstacles);
     if r.number != 0 {
         return answered(r, 0);
     }
@@ -94,7 +94,7 @@ fn write_sections(
     if out.len() < needed {
         return answered(refused(16, needed as u64), 0);
     }
-    write_file(FIRST, nodes, wires, obstacles, out);
+    write_file(FIRST_VERSION, nodes, wires, obstacles, out);
     Answer {
         number: 0,
         place: stop as u64,

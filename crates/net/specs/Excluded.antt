@@ -77,9 +77,9 @@ pub record SmallFiles : Type 0 where
   -- the bytes of a written head
   pub head-bytes :
       headOf 1 1280 765 8 ≡ 1 ∷ 0 ∷ 3 ∷ 0 ∷ 28 ∷ 0 ∷ 0 ∷ 0 ∷ 0 ∷ 5 ∷ 0 ∷ 0 ∷ 28 ∷ 5 ∷ 0 ∷ 0 ∷ 253 ∷ 2 ∷ 0 ∷ 0 ∷ 25 ∷ 8 ∷ 0 ∷ 0 ∷ 8 ∷ 0 ∷ 0 ∷ 0 ∷ []
-  -- writing tries all 32 bits of the version, and tries it first: 65537 is 2, before 4
+  -- writing tries all 32 bits of the version, and tries it before the sections: with 65537 the same sections meet 2, with version 2 they meet 4
   pub version-65537 : writeRefusal 65537 [] [] [] 0 ≡ refusal 2 0
-  pub version-four : writeRefusal 2 [] [] [] 0 ≡ refusal 4 0
+  pub four-after-version : writeRefusal 2 [] [] [] 0 ≡ refusal 4 0
   -- with one byte too few lent, writing is 16 with the bytes of the whole file, and the buffer holds what it held
   pub written-short : (out : List ℕ) → length out ≡ 48 → writeAnswer 1 (nodes 3) wires obstacles (length out) ≡ record { number = 16; place = 49; count = 0 }
   pub kept-short : (out : List ℕ) → length out ≡ 48 → writeBuffer 1 (nodes 3) wires obstacles out ≡ out
@@ -116,7 +116,7 @@ small-files =
       layer-of-stage = refl;
       head-bytes = refl;
       version-65537 = refl;
-      version-four = refl;
+      four-after-version = refl;
       written-short = λ out short. rw short;
       kept-short = λ out short. rw short;
     }

@@ -184,9 +184,9 @@ module _ (v : ℕ) (os : List ℕ) (k : ℕ) where
   pub obstacle-none : met (obstacleRefusal v os k) ≡ false → none ≡ obstacleRefusal v os k
   unfolding obstacleRefusal
   obstacle-none e =
-      let crossed = ltb (obstacleX2 v os k) (obstacleX1 v os k) || ltb (obstacleY2 v os k) (obstacleY1 v os k) in
+      let reversed = ltb (obstacleX2 v os k) (obstacleX1 v os k) || ltb (obstacleY2 v os k) (obstacleY1 v os k) in
       let outside = eqb (obstacleLayer v os k) 0 || ltb mostLayers (obstacleLayer v os k) in
-      none-or (refusedIf crossed 11 k) (refusedIf outside 20 k) (none-if outside 20 k refl) e
+      none-or (refusedIf reversed 11 k) (refusedIf outside 20 k) (none-if outside 20 k refl) e
 
 -- a section, from its pair
 pub stretch-part : (f : List ℕ) (k a e : ℕ) → a ≡ offset f k → e ≡ offset f k + extent f k → take (e - a) (drop a f) ≡ stretch f k

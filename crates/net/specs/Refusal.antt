@@ -1,4 +1,4 @@
--- Document 01, "Where each refusal is met": numbers 1 to 11 and 16, with 20 of document 02, which comes first, and what reading and writing answer.
+-- Document 01, "Where each refusal is met": numbers 1 to 11 and 16, and 20 of document 02; which of them comes first, and what reading and writing answer.
 -- Assumes nothing.
 use Prim.Native.Nat.{ℕ, zero, suc, _+_, _-_, _*_, _%_}
 use mathlib.Core.Bool.{Bool, true, false, not, _&&_, _||_, cond}

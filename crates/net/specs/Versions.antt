@@ -15,7 +15,7 @@ use Rattle.net.specs.Net.{obstacleCount}
 use Rattle.net.specs.Refusal.{isVersion}
 
 -- a version is 1 or 2
-pub version-cases : (v : ℕ) → isVersion v ≡ true → (v ≡ 1) ⊎ (v ≡ newest)
+version-cases : (v : ℕ) → isVersion v ≡ true → (v ≡ 1) ⊎ (v ≡ newest)
 unfolding isVersion
 version-cases v e = by (eqb v 1) (λ h. inl (eqb-true v 1 h)) (λ h. inr (eqb-true v newest (rw h at e)))
 
@@ -25,14 +25,6 @@ version-low v e = small (version-cases v e)
     small : (v ≡ 1) ⊎ (v ≡ newest) → v ≤ newest
     small (inl h) = omega arith
     small (inr h) = omega arith
-
--- one that is not 1 is 2
-pub version-newest : (v : ℕ) → isVersion v ≡ true → (v ≡ 1 → ⊥) → v ≡ newest
-version-newest v e n = other (version-cases v e)
-  where
-    other : (v ≡ 1) ⊎ (v ≡ newest) → v ≡ newest
-    other (inl h) = absurd (n h)
-    other (inr h) = h
 
 -- an obstacle has eight or nine bytes
 pub bytes-low : (v : ℕ) → 8 ≤ obstacleBytes v
@@ -50,10 +42,10 @@ bytes-high v = pick (eqb v 1)
     pick false = omega arith
 
 -- it ends with its layer where the version is not 1
-pub bytes-nine : (v : ℕ) → (v ≡ 1 → ⊥) → obstacleBytes v ≡ 9
+bytes-nine : (v : ℕ) → (v ≡ 1 → ⊥) → obstacleBytes v ≡ 9
 bytes-nine v n = rw (ne-eqb v 1 n)
 
--- a section whose length the records divide, and one that it is not
+-- a section is whole records exactly if their length divides its length
 pub section-whole : (v : ℕ) (os : List ℕ) → length os % obstacleBytes v ≡ 0 → length os ≡ obstacleBytes v * obstacleCount v os
 section-whole v os = pick (eqb v 1) (length os)
   where
@@ -77,7 +69,7 @@ records-inside v os = pick (eqb v 1) (length os)
     pick false n = omega arith
 
 -- each of them does
-pub record-inside : (v : ℕ) (os : List ℕ) (k : ℕ) → k < obstacleCount v os → obstacleBytes v * k + obstacleBytes v ≤ length os
+record-inside : (v : ℕ) (os : List ℕ) (k : ℕ) → k < obstacleCount v os → obstacleBytes v * k + obstacleBytes v ≤ length os
 record-inside v os k = pick (eqb v 1) (length os)
   where
     pick : (b : Bool) (n : ℕ) → k < n / cond b 8 9 → cond b 8 9 * k + cond b 8 9 ≤ n

@@ -1,6 +1,6 @@
 // Fields of nodes, wires and obstacles, read in place from their sections.
-use crate::layout::FIRST;
 use crate::layout::FIRST_OBSTACLE_BYTES;
+use crate::layout::FIRST_VERSION;
 use crate::layout::MOST_LAYERS;
 use crate::layout::NODE_BYTES;
 use crate::layout::OBSTACLE_BYTES;
@@ -128,7 +128,7 @@ pub fn is_present(stage: u8, wires: &[u8], i: usize) -> bool
 pub fn obstacle_bytes(version: u16) -> usize
     ensures { λ r. ⌜ r ≡ obstacleBytes version ⌝ }
 {
-    if version == FIRST {
+    if version == FIRST_VERSION {
         return FIRST_OBSTACLE_BYTES;
     }
     OBSTACLE_BYTES
@@ -137,7 +137,7 @@ pub fn obstacle_bytes(version: u16) -> usize
 pub fn obstacle_count(version: u16, obstacles: &[u8]) -> usize
     ensures { λ r. ⌜ r ≡ obstacleCount version (now (obstacles .entry)) ⌝ }
 {
-    if version == FIRST {
+    if version == FIRST_VERSION {
         return obstacles.len() / FIRST_OBSTACLE_BYTES;
     }
     obstacles.len() / OBSTACLE_BYTES
@@ -183,7 +183,7 @@ pub fn obstacle_layer(version: u16, obstacles: &[u8], k: usize) -> u8
     requires { ⌜ k < obstacleCount version (now obstacles) ⌝ }
     ensures { λ r. ⌜ r ≡ obstacleLayer version (now (obstacles .entry)) k ⌝ }
 {
-    if version == FIRST {
+    if version == FIRST_VERSION {
         return MOST_LAYERS;
     }
     obstacles[OBSTACLE_BYTES * k + 8]

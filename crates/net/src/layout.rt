@@ -26,9 +26,9 @@ pub const MOST_LAYERS: u8 = 16;
 pub const MOST_FLAGS: u8 = 3;
 
 // The versions of net files, and their pair count.
-pub const FIRST: u16 = 1;
+pub const FIRST_VERSION: u16 = 1;
 
-pub const NEWEST: u16 = 2;
+pub const NEWEST_VERSION: u16 = 2;
 
 pub const PAIR_COUNT: u16 = 3;
 

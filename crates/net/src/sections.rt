@@ -4,10 +4,10 @@ use crate::answers::none;
 use crate::answers::refused;
 use crate::fields::u16_at;
 use crate::fields::u32_at;
-use crate::layout::FIRST;
+use crate::layout::FIRST_VERSION;
 use crate::layout::HEAD_BYTES;
 use crate::layout::LENGTH_AT;
-use crate::layout::NEWEST;
+use crate::layout::NEWEST_VERSION;
 use crate::layout::PAIR_BYTES;
 use crate::layout::PAIR_COUNT;
 use crate::layout::PAIR_COUNT_AT;
@@ -33,10 +33,10 @@ pub fn version(file: &[u8]) -> u16
 pub fn is_version(version: u32) -> bool
     ensures { λ r. ⌜ r ≡ isVersion version ⌝ }
 {
-    if version == FIRST as u32 {
+    if version == FIRST_VERSION as u32 {
         return true;
     }
-    version == NEWEST as u32
+    version == NEWEST_VERSION as u32
 }
 
 // The nodes of a file: that part of it, or an empty part after 2 or 3.

@@ -33,7 +33,7 @@ module _ (v : ℕ) (os : List ℕ) where
 
   -- where they have that form as they are, the version is the newest, or preparing leaves them as they are: there are none
   pub prepared-as-is : (eqb v newest || eqb (length os) 0) ≡ true → (v ≡ newest) ⊎ (prepared v os ≡ os)
-  prepared-as-is e = ⊎-map (λ y. eqb-true v newest y) (λ z. none (eqb-true (length os) 0 z)) (or-cases (eqb v newest) (eqb (length os) 0) e)
+  prepared-as-is e = ⊎-map (λ y. eqb-true v newest y) (λ z. unchanged (eqb-true (length os) 0 z)) (or-cases (eqb v newest) (eqb (length os) 0) e)
     where
       count : (b : Bool) (m : ℕ) → m ≡ 0 → m / cond b 8 9 ≡ 0
       count true m z = omega arith
@@ -41,15 +41,15 @@ module _ (v : ℕ) (os : List ℕ) where
 
       empty : (l : List ℕ) → length l ≡ 0 → l ≡ []
       empty [] z = refl
-      empty (x ∷ l) z = absurd (native.Mathlib.Nat.lt-irrefl 0 (omega arith))
+      empty (x ∷ l) z = absurd (omega arith)
 
-      none : length os ≡ 0 → prepared v os ≡ os
-      none z =
+      unchanged : length os ≡ 0 → prepared v os ≡ os
+      unchanged z =
           let n : obstacleCount v os ≡ 0 = count (eqb v 1) (length os) z in
           let l = prepared-length in
           empty (prepared v os) (omega arith) ∙ sym (empty os z)
 
-  pub prepared-count : obstacleCount newest (prepared v os) ≡ obstacleCount v os
+  prepared-count : obstacleCount newest (prepared v os) ≡ obstacleCount v os
   prepared-count = let e = prepared-length in omega arith
 
   module _ (k : ℕ) (inside : k < obstacleCount v os) where
@@ -76,7 +76,7 @@ module _ (v : ℕ) (os : List ℕ) where
     layer-same : obstacleLayer newest (prepared v os) k ≡ obstacleLayer v os k
     layer-same = byte 8 _ refl (omega arith)
 
-    pub prepared-holds : (x y : ℕ) → holds newest (prepared v os) k x y ≡ holds v os k x y
+    prepared-holds : (x y : ℕ) → holds newest (prepared v os) k x y ≡ holds v os k x y
     unfolding holds
     prepared-holds x y = rw (x1-same, x2-same, y1-same, y2-same)
 
@@ -92,7 +92,7 @@ module _ (v : ℕ) (os : List ℕ) where
     unfolding stageOf
     prepared-agrees k i t p low high = prepared-barred i t
 
-    pub prepared-right : NetRight v ns ws os → NetRight newest ns ws (prepared v os)
+    prepared-right : NetRight v ns ws os → NetRight newest ns ws (prepared v os)
     prepared-right r =
         record {
           sized =

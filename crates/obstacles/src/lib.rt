@@ -2,7 +2,7 @@
 use net::fields::obstacle_bytes;
 use net::fields::obstacle_count;
 use net::fields::obstacle_layer;
-use net::layout::NEWEST;
+use net::layout::NEWEST_VERSION;
 use net::layout::OBSTACLE_BYTES;
 ghost use mathlib.Core.Path.{_≡_};
 ghost use mathlib.Core.Bool.{_||_};
@@ -21,7 +21,7 @@ pub const PREPARED_BYTES: usize = 2304;
 pub fn is_prepared(version: u16, obstacles: &[u8]) -> bool
     ensures { λ r. ⌜ r ≡ (eqb version newest || eqb (length (now (obstacles .entry))) 0) ⌝ }
 {
-    if version == NEWEST {
+    if version == NEWEST_VERSION {
         return true;
     }
     obstacles.len() == 0

@@ -56,7 +56,7 @@ piece-back {s} {other} p =
     }
 
 -- the same sets are legal
-pub legal-same : {s : Stage} {other : ℕ → ℕ → Bool} {limit : ℕ} {J : Points} → SameBarred s other → Legal s limit J → Legal (barredBy s other) limit J
+legal-same : {s : Stage} {other : ℕ → ℕ → Bool} {limit : ℕ} {J : Points} → SameBarred s other → Legal s limit J → Legal (barredBy s other) limit J
 unfolding isHarmful hasGate hasSource weightOf
 legal-same agree l =
     record {
@@ -66,7 +66,7 @@ legal-same agree l =
       harmless = λ P p. l .harmless P (piece-back p);
     }
 
--- none is, or the same lists are smallest
+-- where none is legal, none is legal in the other; the same lists are smallest
 module _ {s : Stage} {other : ℕ → ℕ → Bool} (agree : SameBarred s other) where
   legal-back : {limit : ℕ} {J : Points} → Legal (barredBy s other) limit J → Legal s limit J
   legal-back l = legal-same {s = barredBy s other} {other = s .barred} (λ i t p low high. sym (agree i t p low high)) l

@@ -9,7 +9,7 @@ use net::fields::obstacle_y1;
 use net::fields::obstacle_y2;
 use net::fields::wire_layer;
 use net::fields::wire_parent;
-use net::layout::NEWEST;
+use net::layout::NEWEST_VERSION;
 ghost use mathlib.Core.Path.{_≡_};
 ghost use mathlib.Core.Bool.{true, false};
 ghost use mathlib.Core.Logic.{_⊎_};
@@ -112,11 +112,11 @@ fn highest_free(obstacles: &[u8], layer: u8, x: u16, y: u16, dx: i32, dy: i32, l
     requires { ⌜ Reach x dx last × Reach y dy last ⌝ }
     ensures { λ r. ⌜ Highest (barredAt (now (obstacles .entry)) layer x y dx dy) last r ⌝ }
 {
-    let count = obstacle_count(NEWEST, obstacles);
+    let count = obstacle_count(NEWEST_VERSION, obstacles);
     let mut t = last;
     while 0 < t {
         let k = first_barring(
-            NEWEST,
+            NEWEST_VERSION,
             obstacles,
             layer,
             at_step(x, dx, t),
@@ -144,11 +144,11 @@ fn lowest_free(
     requires { ⌜ Reach x dx end × Reach y dy end × (0 < first) ⌝ }
     ensures { λ r. ⌜ Lowest (barredAt (now (obstacles .entry)) layer x y dx dy) first end r ⌝ }
 {
-    let count = obstacle_count(NEWEST, obstacles);
+    let count = obstacle_count(NEWEST_VERSION, obstacles);
     let mut t = first;
     while t < end {
         let k = first_barring(
-            NEWEST,
+            NEWEST_VERSION,
             obstacles,
             layer,
             at_step(x, dx, t),
@@ -226,14 +226,14 @@ fn last_below(obstacles: &[u8], k: usize, x: u16, y: u16, dx: i32, dy: i32) -> u
         below_on_axis(
             x,
             dx,
-            obstacle_x1(NEWEST, obstacles, k),
-            obstacle_x2(NEWEST, obstacles, k),
+            obstacle_x1(NEWEST_VERSION, obstacles, k),
+            obstacle_x2(NEWEST_VERSION, obstacles, k),
         ),
         below_on_axis(
             y,
             dy,
-            obstacle_y1(NEWEST, obstacles, k),
-            obstacle_y2(NEWEST, obstacles, k),
+            obstacle_y1(NEWEST_VERSION, obstacles, k),
+            obstacle_y2(NEWEST_VERSION, obstacles, k),
         ),
     )
 }
@@ -247,15 +247,15 @@ fn first_above(obstacles: &[u8], k: usize, x: u16, y: u16, dx: i32, dy: i32, end
         above_on_axis(
             x,
             dx,
-            obstacle_x1(NEWEST, obstacles, k),
-            obstacle_x2(NEWEST, obstacles, k),
+            obstacle_x1(NEWEST_VERSION, obstacles, k),
+            obstacle_x2(NEWEST_VERSION, obstacles, k),
             end,
         ),
         above_on_axis(
             y,
             dy,
-            obstacle_y1(NEWEST, obstacles, k),
-            obstacle_y2(NEWEST, obstacles, k),
+            obstacle_y1(NEWEST_VERSION, obstacles, k),
+            obstacle_y2(NEWEST_VERSION, obstacles, k),
             end,
         ),
     )

@@ -297,24 +297,6 @@ pub fn section_lengths(read: Read, write: Write) {
             assert_eq!((answer.number, answer.place), (number, 0), "{length}");
         }
     }
-    // the lengths that are easily taken for good ones, one by one
-    for (version, length, number) in [
-        (1, 8, 0),
-        (2, 8, 6),
-        (1, 9, 6),
-        (2, 9, 0),
-        (1, 72, 0),
-        (2, 72, 0),
-        (1, 8 * 256, 0),
-        (2, 8 * 256, 6),
-        (1, 8 * 257, 6),
-        (1, 9 * 256, 6),
-        (2, 9 * 256, 0),
-        (2, 9 * 257, 6),
-    ] {
-        let answer = compare_write(write, version, &with_obstacles(vec![1; length]), 8192);
-        assert_eq!(answer.number, number, "version {version}, {length} bytes");
-    }
 }
 
 /// The writer tries 2 on all 32 bits of the version, before the sections and the buffer.

@@ -255,7 +255,7 @@ fn legend_has_what_is_there() {
                 "gate",
                 "jumper, wire:position",
                 "obstacle, with its layer",
-                "obstacle of a lower layer, does not count",
+                "obstacle that does not count at this stage",
                 "layer 3",
                 "layer 4, not made yet",
             ],
@@ -446,7 +446,7 @@ fn layers_of_obstacles() {
             assert!(top - 0.2 <= middle.1 && middle.1 <= bottom + 0.2, "{text}");
         }
         assert_eq!(labels, []);
-        let faint = "obstacle of a lower layer, does not count";
+        let faint = "obstacle that does not count at this stage";
         let said = picture.legend().contains(&faint);
         assert_eq!(said, drawn.iter().any(|obstacle| obstacle.faint()));
     }

@@ -1,9 +1,9 @@
 //! Net files of version 1 and of version 2, where obstacles have layers, as files and in text form.
 
-use super::{antenna, stored};
+use super::{antenna, sample, samples, stored};
 use antenna_tests::generate;
 use antenna_tests::random::Random;
-use antenna_tests::reference::net::net_of;
+use antenna_tests::reference::net::{net_of, Net};
 use antenna_tests::root;
 
 /// File to text to file, and text to file to text: each gives back what it began with, and the text says the version.
@@ -94,7 +94,9 @@ fn texts_with_a_wrong_version() {
 fn texts_with_wrong_obstacles() {
     let form = "an obstacle is 'obstacle X1 Y1 to X2 Y2";
     let in_2 = format!("{form} layer L'");
-    let missing = format!("-:3: its layer is missing: in version 2 {in_2}");
+    let missing = format!(
+        "-:3: its layer is missing: in version 2 {in_2}, and layer 16 bars points of every wire"
+    );
     let begin = "-:2: an obstacle has a layer only in version 2: begin with 'version 2'";
     let (form_1, form_2) = (format!("-:2: {form}'"), format!("-:3: {in_2}"));
     for (version, obstacles, told) in [
@@ -149,27 +151,6 @@ fn texts_with_wrong_obstacles() {
     }
 }
 
-/// A file of a version that is not known, in each command.
-#[test]
-fn file_of_another_version() {
-    let mut file = antenna(&["pack", "straps.net"], &[]).out;
-    file[0] = 3;
-    let newer = stored("newer.net", &file);
-    for (name, options) in [
-        ("report", &["--limit=13"][..]),
-        ("repair", &["--limit=13"]),
-        ("check", &["--limit=13", "--jumpers", "/dev/null"]),
-        ("draw", &["--limit=13"]),
-        ("pack", &[]),
-        ("unpack", &[]),
-    ] {
-        let ran = antenna(&[&[name, &newer], options].concat(), &[]);
-        assert_eq!((ran.status, ran.text.as_str()), (2, ""), "{name}");
-        let told = "newer.net: refused 2 0: ";
-        assert!(ran.errors.contains(told), "{name}: {}", ran.errors);
-    }
-}
-
 /// The net of a sample of version 2 in version 1: without the layers of its obstacles.
 fn in_version_1(name: &str) -> String {
     let text = std::fs::read_to_string(root().join("examples/nets").join(name)).unwrap();
@@ -182,6 +163,34 @@ fn in_version_1(name: &str) -> String {
         older += &format!("{}\n", &line[..end]);
     }
     stored(&format!("older-{name}"), older.as_bytes())
+}
+
+/// The net of a sample of version 1 in version 2, as the manual says: each obstacle on layer 16.
+#[test]
+fn samples_in_version_2() {
+    let mut obstacles = 0;
+    for name in samples() {
+        let net = sample(&name);
+        if net.version == 2 {
+            continue;
+        }
+        let text = antenna(&["unpack", &name], &[]).text;
+        let layered = |line: &str| match line.starts_with("obstacle") {
+            true => format!("{line} layer 16\n"),
+            false => format!("{line}\n"),
+        };
+        let lines: String = text.lines().map(layered).collect();
+        let newer = antenna(&["pack", "-"], format!("version 2\n{lines}").as_bytes()).out;
+        assert_eq!(
+            net_of(&newer),
+            Ok(Net {
+                version: 2,
+                ..net.clone()
+            })
+        );
+        obstacles += net.obstacles.len();
+    }
+    assert!(obstacles > 5, "{obstacles}");
 }
 
 /// What the samples of version 2 show: in version 1 every obstacle bars points of every wire.

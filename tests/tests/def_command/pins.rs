@@ -181,7 +181,7 @@ fn obstacles_on_the_net() {
         ),
         (
             "obstacle 0 0 to 1 1 layer 3\n",
-            ":1: an obstacle is 'obstacle X1 Y1 to X2 Y2'",
+            ":1: an obstacle is 'obstacle X1 Y1 to X2 Y2', and has no layer here",
         ),
         ("obstacle 0 0 to 1 1.5\n", ":1: '1.5' is no whole number"),
     ] {

@@ -58,7 +58,7 @@ fn definitions_to_read() {
     }
 }
 
-/// What the listed theorems use besides stands in TRUST.md's second table. Left out is the row that says why the passes are right.
+/// What the listed theorems use besides stands in TRUST.md's second table. Left out are the rows that say why the passes are right.
 #[test]
 fn definitions_of_theorems() {
     let mut specs = Specs::default();
