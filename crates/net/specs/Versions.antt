@@ -26,68 +26,49 @@ version-low v e = small (version-cases v e)
     small (inl h) = omega arith
     small (inr h) = omega arith
 
--- an obstacle has eight or nine bytes
-pub bytes-low : (v : ℕ) → 8 ≤ obstacleBytes v
-bytes-low v = pick (eqb v 1)
+-- an obstacle has eight or nine bytes: what holds of both widths holds of every version's
+pub of-width : (P : ℕ → Type 0) → P 8 → P 9 → (v : ℕ) → P (obstacleBytes v)
+of-width P eight nine v = pick (eqb v 1)
   where
-    pick : (b : Bool) → 8 ≤ cond b 8 9
-    pick true = omega arith
-    pick false = omega arith
+    pick : (b : Bool) → P (cond b 8 9)
+    pick true = eight
+    pick false = nine
+
+pub bytes-low : (v : ℕ) → 8 ≤ obstacleBytes v
+bytes-low v = of-width (λ w. 8 ≤ w) (omega arith) (omega arith) v
 
 pub bytes-high : (v : ℕ) → obstacleBytes v ≤ 9
-bytes-high v = pick (eqb v 1)
-  where
-    pick : (b : Bool) → cond b 8 9 ≤ 9
-    pick true = omega arith
-    pick false = omega arith
+bytes-high v = of-width (λ w. w ≤ 9) (omega arith) (omega arith) v
 
 -- it ends with its layer where the version is not 1
 bytes-nine : (v : ℕ) → (v ≡ 1 → ⊥) → obstacleBytes v ≡ 9
 bytes-nine v n = rw (ne-eqb v 1 n)
 
--- a section is whole records exactly if their length divides its length
-pub section-whole : (v : ℕ) (os : List ℕ) → length os % obstacleBytes v ≡ 0 → length os ≡ obstacleBytes v * obstacleCount v os
-section-whole v os = pick (eqb v 1) (length os)
-  where
-    pick : (b : Bool) (n : ℕ) → n % cond b 8 9 ≡ 0 → n ≡ cond b 8 9 * (n / cond b 8 9)
-    pick true n e = omega arith
-    pick false n e = omega arith
+module _ (v : ℕ) (os : List ℕ) where
+  -- a section is whole records exactly if their length divides its length
+  pub section-whole : length os % obstacleBytes v ≡ 0 → length os ≡ obstacleBytes v * obstacleCount v os
+  section-whole = of-width (λ w. length os % w ≡ 0 → length os ≡ w * (length os / w)) (λ e. omega arith) (λ e. omega arith) v
 
-pub whole-section : (v : ℕ) (os : List ℕ) → length os ≡ obstacleBytes v * obstacleCount v os → length os % obstacleBytes v ≡ 0
-whole-section v os = pick (eqb v 1) (length os)
-  where
-    pick : (b : Bool) (n : ℕ) → n ≡ cond b 8 9 * (n / cond b 8 9) → n % cond b 8 9 ≡ 0
-    pick true n e = omega arith
-    pick false n e = omega arith
+  pub whole-section : length os ≡ obstacleBytes v * obstacleCount v os → length os % obstacleBytes v ≡ 0
+  whole-section = of-width (λ w. length os ≡ w * (length os / w) → length os % w ≡ 0) (λ e. omega arith) (λ e. omega arith) v
 
--- the records lie in their section
-pub records-inside : (v : ℕ) (os : List ℕ) → obstacleBytes v * obstacleCount v os ≤ length os
-records-inside v os = pick (eqb v 1) (length os)
-  where
-    pick : (b : Bool) (n : ℕ) → cond b 8 9 * (n / cond b 8 9) ≤ n
-    pick true n = omega arith
-    pick false n = omega arith
+  -- the records lie in their section
+  pub records-inside : obstacleBytes v * obstacleCount v os ≤ length os
+  records-inside = of-width (λ w. w * (length os / w) ≤ length os) (omega arith) (omega arith) v
 
--- each of them does
-record-inside : (v : ℕ) (os : List ℕ) (k : ℕ) → k < obstacleCount v os → obstacleBytes v * k + obstacleBytes v ≤ length os
-record-inside v os k = pick (eqb v 1) (length os)
-  where
-    pick : (b : Bool) (n : ℕ) → k < n / cond b 8 9 → cond b 8 9 * k + cond b 8 9 ≤ n
-    pick true n h = omega arith
-    pick false n h = omega arith
+  -- few obstacles take few bytes
+  pub section-short : (n : ℕ) → length os ≡ obstacleBytes v * obstacleCount v os → obstacleCount v os ≤ n → length os ≤ 9 * n
+  section-short n = of-width (λ w. length os ≡ w * (length os / w) → length os / w ≤ n → length os ≤ 9 * n) (λ e h. omega arith) (λ e h. omega arith) v
 
--- and so do its corners, its first eight bytes
-pub corners-inside : (v : ℕ) (os : List ℕ) (k b : ℕ) → b ≡ obstacleBytes v → k < obstacleCount v os → b * k + 8 ≤ length os
-corners-inside v os k b e h = rw e (omega (arith, record-inside v os k h, bytes-low v))
+  -- each record lies in its section
+  module _ (k : ℕ) where
+    record-inside : k < obstacleCount v os → obstacleBytes v * k + obstacleBytes v ≤ length os
+    record-inside = of-width (λ w. k < length os / w → w * k + w ≤ length os) (λ h. omega arith) (λ h. omega arith) v
 
--- and its layer, where it has one
-pub layer-inside : (v : ℕ) (os : List ℕ) (k : ℕ) → (v ≡ 1 → ⊥) → k < obstacleCount v os → 9 * k + 8 < length os
-layer-inside v os k n h = omega (arith, rw (bytes-nine v n) at (record-inside v os k h))
+    -- and so do its corners, its first eight bytes
+    pub corners-inside : (b : ℕ) → b ≡ obstacleBytes v → k < obstacleCount v os → b * k + 8 ≤ length os
+    corners-inside b e h = rw e (omega (arith, record-inside h, bytes-low v))
 
--- few obstacles take few bytes
-pub section-short : (v : ℕ) (os : List ℕ) (n : ℕ) → length os ≡ obstacleBytes v * obstacleCount v os → obstacleCount v os ≤ n → length os ≤ 9 * n
-section-short v os n e h = pick (eqb v 1) (length os) e h
-  where
-    pick : (b : Bool) (m : ℕ) → m ≡ cond b 8 9 * (m / cond b 8 9) → m / cond b 8 9 ≤ n → m ≤ 9 * n
-    pick true m e h = omega arith
-    pick false m e h = omega arith
+    -- and its layer, where it has one
+    pub layer-inside : (v ≡ 1 → ⊥) → k < obstacleCount v os → 9 * k + 8 < length os
+    layer-inside n h = omega (arith, rw (bytes-nine v n) at (record-inside h))

@@ -2,7 +2,7 @@
 -- Assumes nothing.
 use Prim.Native.Nat.{ℕ, _+_, _*_, _/_, _<_, _≤_}
 use mathlib.Core.Path.{_≡_, refl, sym, _∙_, ap}
-use mathlib.Core.Bool.{Bool, true, false, _||_, cond}
+use mathlib.Core.Bool.{true, _||_}
 use mathlib.Core.Logic.{_⊎_, ⊎-map}
 use mathlib.Core.List.{List, [], _∷_}
 use native.Mathlib.Omega.{arith}
@@ -16,6 +16,7 @@ use Rattle.laws.specs.Written.{written-taken}
 use Rattle.laws.specs.Sums.{or-cases, any-ap}
 use Rattle.net.specs.Layout.{newest, obstacleBytes, mostObstacles}
 use Rattle.net.specs.Net.{pointX, pointY, obstacleCount, obstacleX1, obstacleY1, obstacleX2, obstacleY2, obstacleLayer, holds, barred}
+use Rattle.net.specs.Versions.{of-width}
 use Rattle.net.specs.Stage.{stageOf}
 use Rattle.net.specs.Refusal.{none, netRefusal}
 use Rattle.net.specs.Accepted.{NetRight, net-right}
@@ -35,17 +36,13 @@ module _ (v : ℕ) (os : List ℕ) where
   pub prepared-as-is : (eqb v newest || eqb (length os) 0) ≡ true → (v ≡ newest) ⊎ (prepared v os ≡ os)
   prepared-as-is e = ⊎-map (λ y. eqb-true v newest y) (λ z. unchanged (eqb-true (length os) 0 z)) (or-cases (eqb v newest) (eqb (length os) 0) e)
     where
-      count : (b : Bool) (m : ℕ) → m ≡ 0 → m / cond b 8 9 ≡ 0
-      count true m z = omega arith
-      count false m z = omega arith
-
       empty : (l : List ℕ) → length l ≡ 0 → l ≡ []
       empty [] z = refl
       empty (x ∷ l) z = absurd (omega arith)
 
       unchanged : length os ≡ 0 → prepared v os ≡ os
       unchanged z =
-          let n : obstacleCount v os ≡ 0 = count (eqb v 1) (length os) z in
+          let n : obstacleCount v os ≡ 0 = of-width (λ w. length os / w ≡ 0) (omega arith) (omega arith) v in
           let l = prepared-length in
           empty (prepared v os) (omega arith) ∙ sym (empty os z)
 
