@@ -1,4 +1,6 @@
 // The public calls of the desk as C exports. Each takes any input and carries the whole promise of the call behind it.
+#![tactic(auto)]
+
 ghost use Rattle.std.specs.Prelude.{◌≡◌, length};
 ghost use Rattle.repairs.specs.Promise.{Repaired};
 ghost use Rattle.net.specs.Refusal.{read_answer, write_answer, write_buffer};

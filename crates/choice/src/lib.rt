@@ -1,4 +1,6 @@
 // The pass up: the option that each cluster takes, and the branches cut at their highest cuttable point.
+#![tactic(auto)]
+
 ghost use Rattle.std.specs.Prelude.{◌≡◌, Bool, not, ◌&&◌, ◌||◌, cond, List, ℕ, ◌+◌, ◌*◌, ◌<◌, ◌≤◌, length, leb};
 ghost use Rattle.net.specs.Layout.{most_nodes, wire_bytes};
 ghost use Rattle.net.specs.Limits.{length_bound, weight_bound};

@@ -1,4 +1,6 @@
 // What the two programs share: the parts of their input, and the lines they print.
+#![tactic(auto)]
+
 ghost use Rattle.std.specs.Prelude.{◌≡◌, ◌+◌, ◌≤◌, length};
 ghost use Rattle.net.specs.Layout.{record_bytes};
 ghost use Rattle.console.specs.Input.{input_stage, input_limit, input_file};

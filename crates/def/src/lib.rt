@@ -1,5 +1,7 @@
 // A net's routing read from a DEF text and written as a net file.
 // Definitions: specs/.
+#![tactic(auto)]
+
 ghost use Rattle.std.specs.Prelude.{◌≡◌, ◌-◌, ◌≤◌, length};
 ghost use Rattle.net.specs.Layout.{most_nodes};
 ghost use Rattle.def.specs.Promise.{def_answer, def_buffer};

@@ -133,9 +133,9 @@ mem_gather (suc n) i f p m =
 pub gather_mem : {A : Type 0} {x : A} (n : ℕ) (f : ℕ → List A) → Memᴰ x (gather n f) → (i : ℕ) × (i < n) × Memᴰ x (f i)
 unfolding gather
 gather_mem zero f m = absurd (Memᴰ.not-nil m)
-gather_mem (suc n) f m =
+gather_mem {x = x} (suc n) f m =
     ⊎_elim
-    (λ a. let r = gather_mem n f a in (r.0, omega (arith, r.1), r.2))
+    (λ a. let r = gather_mem {x = x} n f a in (r.0, omega (arith, r.1), r.2))
     (λ b. (n, omega arith, b))
     (Memᴰ.append_cases (gather n f) m)
 

@@ -20,10 +20,10 @@ module _ {A : Type 0} (d : A) where
 
   pub at_mem : {y : A} (l : List A) → Memᴰ y l → (i : ℕ) × (i < length l) × (get_or l i d ≡ y)
   at_mem [] m = absurd (Memᴰ.not-nil m)
-  at_mem (x ∷ l) m =
+  at_mem {y = y} (x ∷ l) m =
       ⊎_elim
       (λ e. (0, omega arith, sym e))
-      (λ k. let r = at_mem l k in (suc r.0, omega (arith, r.1), r.2))
+      (λ k. let r = at_mem {y = y} l k in (suc r.0, omega (arith, r.1), r.2))
       (Memᴰ.cases_cons m)
 
   pub sorted_at : {Before : A → A → Type 0} (l : List A) → Sorted Before l → (i j : ℕ) → i < j → j < length l → Before (get_or l i d) (get_or l j d)

@@ -1,4 +1,6 @@
 // The jumper list of the chosen points.
+#![tactic(auto)]
+
 ghost use Rattle.std.specs.Prelude.{◌≡◌, ◌*◌, ◌<◌, ◌≤◌, length};
 ghost use Rattle.laws.specs.Lists.{over};
 ghost use Rattle.laws.specs.Sum.{χ};

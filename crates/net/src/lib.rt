@@ -1,5 +1,7 @@
 // The net of document 01: its files read, refused, handed out in sections and written.
 // Definitions: specs/.
+#![tactic(auto)]
+
 pub mod answers;
 pub mod call;
 pub mod fields;

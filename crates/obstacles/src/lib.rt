@@ -1,4 +1,6 @@
 // Obstacles of every version in one form, that of the newest version: what every pass behind the refusals sees.
+#![tactic(auto)]
+
 ghost use Rattle.std.specs.Prelude.{◌≡◌, ◌||◌, ◌*◌, ◌<◌, ◌≤◌, length, eqb};
 ghost use Rattle.laws.specs.Lists.{over};
 ghost use Rattle.net.specs.Layout.{newest, obstacle_bytes};

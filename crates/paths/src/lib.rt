@@ -1,4 +1,6 @@
 // The points of a net's routing in a DEF text, read one after another, and read again.
+#![tactic(auto)]
+
 ghost use Rattle.std.specs.Prelude.{◌≡◌, cond, ◌≤◌, ◌<◌, length};
 ghost use Rattle.words.specs.Words.{spelling};
 ghost use Rattle.paths.specs.Form.{is_coordinate, coordinate, point_from, path_from, behind, beginning, start};

@@ -1,1 +1,2 @@
 // Mathematics alone: see specs/.
+#![tactic(auto)]

@@ -1,4 +1,6 @@
 // The points of a wire, by signed coordinate differences, and the obstacles that bar them. The search sees obstacles in the form of the newest version.
+#![tactic(auto)]
+
 ghost use Rattle.std.specs.Prelude.{◌≡◌, true, false, ◌⊎◌, ℕ, ◌+◌, ◌-◌, ◌<◌, ◌≤◌};
 ghost use Rattle.std.proofs.Math.IntN.{sub_ℕ};
 ghost use Rattle.net.specs.Layout.{newest};

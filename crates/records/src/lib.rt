@@ -1,4 +1,6 @@
 // The records of all pieces, written in one pass by rising wire number over an accepted net with an accepted jumper list.
+#![tactic(auto)]
+
 pub mod pass;
 mod record;
 mod wire;

@@ -1,4 +1,6 @@
 // Reads stage, limit and a net file from standard input, repairs the net and prints the jumpers.
+#![tactic(auto)]
+
 ghost use Rattle.std.specs.Prelude.{◌≡◌, ◌*◌, ◌≤◌, length};
 ghost use Rattle.net.specs.Layout.{entry_bytes};
 

@@ -1,4 +1,6 @@
 // Repair: what the call tries in order, and the passes behind it.
+#![tactic(auto)]
+
 ghost use Rattle.std.specs.Prelude.{◌≡◌};
 ghost use Rattle.net.specs.Layout.{newest};
 ghost use Rattle.net.specs.Stage.{stage_of};

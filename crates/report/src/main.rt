@@ -1,4 +1,6 @@
 // Reads stage, limit and a net file from standard input and prints the piece records of the uncut stage, one a line.
+#![tactic(auto)]
+
 ghost use Rattle.std.specs.Prelude.{◌≡◌, ◌*◌, ◌≤◌, length};
 ghost use Rattle.net.specs.Layout.{record_bytes};
 

@@ -1,5 +1,7 @@
 // The route of a net read from a DEF text: 17, 18, and a table of its first 256 nodes.
 // Definitions: specs/.
+#![tactic(auto)]
+
 pub mod reader;
 pub mod reading;
 pub mod table;

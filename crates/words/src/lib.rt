@@ -1,4 +1,6 @@
 // The words of a DEF text: where they stand, and what they spell.
+#![tactic(auto)]
+
 ghost use Rattle.std.specs.Prelude.{◌≡◌, cond, [], ◌∷◌, ◌≤◌, length};
 ghost use Rattle.words.specs.Words.{blank, word_start, word_end, word_from, spelling, same, is_number, number_of, layer_digits, layer_of};
 
