@@ -2,7 +2,7 @@
 -- Assumes nothing.
 use Prim.Native.Nat.{ℕ, suc, ◌+◌, ◌-◌, ◌*◌, ◌^◌, ◌<◌, ◌≤◌}
 use Rattle.std.specs.Prelude.{◌≡◌, refl, Bool, true, false, cond, List, [], ◌∷◌, take, drop, get_or}
-use Rattle.std.proofs.Math.Bool.{and_false}
+use Rattle.std.proofs.Math.Bool.{and-false}
 use Rattle.std.proofs.Common.{add-one, lit<, drop-cons}
 use native.Mathlib.Omega.{arith}
 use Rattle.std.proofs.Math.Nat.{pow-succ', one-le-pow, pow-le-pow_right}
@@ -59,7 +59,7 @@ module _ (text : List ℕ) (w : Word) (h : w.at ≤ w.next) (k : w.next ≤ leng
 
   pub number-long : 5 < w.next - w.at → 65536 ≡ number_or (spelling text w)
   unfolding is_number
-  number-long l = rw (le-ltb (length (spelling text w)) 6 (omega (arith, spelling-length text w h k)), and_false)
+  number-long l = rw (le-ltb (length (spelling text w)) 6 (omega (arith, spelling-length text w h k)), and-false)
 
   pub read_none : ReadUpTo text w.at w.next 0 w.at
   read_none = record { from = omega arith; within = h; below = one-le-pow _ 10 (lit< tt); all = refl; value = refl }
@@ -73,7 +73,7 @@ module _ (text : List ℕ) (w : Word) (h : w.at ≤ w.next) (k : w.next ≤ leng
       module _ (b : ℕ) (e : b ≡ get_or text i 0) where
         number_other : digit b ≡ false → 65536 ≡ number_or (spelling text w)
         unfolding digits is_number spelling
-        number_other d = simp (← r.all, part-cons text i w.next l k, ← e, d, and_false)
+        number_other d = simp (← r.all, part-cons text i w.next l k, ← e, d, and-false)
 
         pub number-low : b < 48 → 65536 ≡ number_or (spelling text w)
         number-low g = number_other (digit_low b g)
@@ -106,7 +106,7 @@ module _ (text : List ℕ) (w : Word) (h : w.at ≤ w.next) (k : w.next ≤ leng
 
       pub number_large : 65536 ≤ v → 65536 ≡ number_or (spelling text w)
       unfolding is_number
-      number_large g = simp (value_read, le-ltb v 65536 g, and_false)
+      number_large g = simp (value_read, le-ltb v 65536 g, and-false)
 
       pub number-right : (w.next ≡ w.at → ⊥) → w.next - w.at ≤ 5 → v < 65536 → v ≡ number_or (spelling text w)
       unfolding is_number
