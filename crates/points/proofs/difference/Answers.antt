@@ -8,8 +8,7 @@ use mir.Syntax.{w16, w32}
 use mir.Val.{Fits, SFits, to_z}
 use mir.Facts.{to_z-of_z, to_z_pos}
 use Rattle.points.specs.Geometry.{difference_is, difference_fits}
-use Rattle.points.proofs.difference.Statement.{statement}
-use Rattle.points.proofs.difference.Tie as tie
+use Rattle.points.proofs.difference.Goals as goal
 
 difference : (a b : ℕ) → Fits w16 a → Fits w16 b → to_z w32 a -ℤ to_z w32 b ≡ sub_ℕ a b
 difference a b fa fb = rw (to_z_pos w32 {n = a} (omega arith), to_z_pos w32 {n = b} (omega arith)) (difference_is a b)
@@ -17,19 +16,10 @@ difference a b fa fb = rw (to_z_pos w32 {n = a} (omega arith), to_z_pos w32 {n =
 difference-small : (a b : ℕ) → Fits w16 a → Fits w16 b → SFits w32 (to_z w32 a -ℤ to_z w32 b)
 difference-small a b fa fb = rw (difference a b fa fb) (record { sfits = omega (arith, difference_fits a b (omega arith) (omega arith)) })
 
-cast-result : tie.Need-overflow-cast-result
-cast-result c = search rules
+pub overflow_sub-result : goal.overflow_sub-result
+overflow_sub-result c = difference-small c.args.to c.args.from c.ranges.to c.ranges.from
 
-cast-result-2 : tie.Need-overflow-cast-result-2
-cast-result-2 c = search rules
-
-sub-result : tie.Need-overflow-sub-result
-sub-result c = difference-small c.args.to c.args.from c.ranges.to c.ranges.from
-
-returns : tie.Need-returns
+pub returns : goal.returns
 returns c =
     to_z-of_z (difference-small c.args.to c.args.from c.ranges.to c.ranges.from)
     ∙ difference c.args.to c.args.from c.ranges.to c.ranges.from
-
-pub difference-spec : {M : Type 1} → statement M
-difference-spec = tie.close (tie.spec cast-result cast-result-2 sub-result returns)

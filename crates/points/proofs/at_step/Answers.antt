@@ -8,45 +8,42 @@ use mir.Syntax.{w16, w32}
 use mir.Val.{Fits, SFits, to_z, of_z}
 use mir.Facts.{to_z-of_z, to_z_pos}
 use Rattle.points.specs.Geometry.{Reach, stepped, steps-fit, stepped_is, stepped-fits, reach-steps}
-use Rattle.points.proofs.at_step.Statement.{statement}
-use Rattle.points.proofs.at_step.Tie as tie
+use Rattle.points.proofs.at_step.Goals as goal
 
+-- UNPARSED
 module _ (from t : ℕ) (d : ℤ) (ff : Fits w16 from) (fd : SFits w32 d) (r : Reach from d t) where
   product : to_z w32 (of_z w32 d) *ℤ to_z w32 t ≡ d *ℤ pos t
   product = rw (to_z-of_z fd, to_z_pos w32 {n = t} (omega (arith, reach-steps r)))
 
+-- UNPARSED
   product-fits : SFits w32 (to_z w32 (of_z w32 d) *ℤ to_z w32 t)
   product-fits = rw product (record { sfits = omega (arith, steps-fit r) })
 
+-- UNPARSED
   sum : to_z w32 from +ℤ to_z w32 (of_z w32 (to_z w32 (of_z w32 d) *ℤ to_z w32 t)) ≡ pos (stepped from d t)
   sum = rw (to_z-of_z product-fits, product, to_z_pos w32 {n = from} (omega arith)) (stepped_is r)
 
+-- UNPARSED
   sum_fits : SFits w32 (to_z w32 from +ℤ to_z w32 (of_z w32 (to_z w32 (of_z w32 d) *ℤ to_z w32 t)))
   sum_fits = rw sum (record { sfits = omega (arith, stepped-fits r) })
 
+-- UNPARSED
   back : to_z w32 (of_z w32 (to_z w32 from +ℤ to_z w32 (of_z w32 (to_z w32 (of_z w32 d) *ℤ to_z w32 t)))) ≡ pos (stepped from d t)
   back = to_z-of_z sum_fits ∙ sum
 
-cast-result : tie.Need-overflow-cast-result
-cast-result c = search rules
+pub overflow_cast-result-2 : goal.overflow_cast-result-2
+overflow_cast-result-2 c = record { sfits = omega (arith, reach-steps c.requires) }
 
-cast-result-2 : tie.Need-overflow-cast-result-2
-cast-result-2 c = record { sfits = omega (arith, reach-steps c.requires) }
+pub overflow_mul-result : goal.overflow_mul-result
+overflow_mul-result c = product-fits c.args.from c.args.t c.args.d c.ranges.from c.ranges.d c.requires
 
-mul-result : tie.Need-overflow-mul-result
-mul-result c = product-fits c.args.from c.args.t c.args.d c.ranges.from c.ranges.d c.requires
+pub overflow_add-result : goal.overflow_add-result
+overflow_add-result c = sum_fits c.args.from c.args.t c.args.d c.ranges.from c.ranges.d c.requires
 
-add-result : tie.Need-overflow-add-result
-add-result c = sum_fits c.args.from c.args.t c.args.d c.ranges.from c.ranges.d c.requires
-
-cast-result-3 : tie.Need-overflow-cast-result-3
-cast-result-3 c =
+pub overflow_cast-result-3 : goal.overflow_cast-result-3
+overflow_cast-result-3 c =
     rw (back c.args.from c.args.t c.args.d c.ranges.from c.ranges.d c.requires)
     (tt, record { fits = omega (arith, stepped-fits c.requires) })
 
-returns : tie.Need-returns
+pub returns : goal.returns
 returns c = ap nat_abs (back c.args.from c.args.t c.args.d c.ranges.from c.ranges.d c.requires)
-
-pub at-step-spec : {M : Type 1} → statement M
-at-step-spec =
-    tie.close (tie.spec cast-result cast-result-2 mul-result add-result cast-result-3 returns)

@@ -1,0 +1,20 @@
+-- `points::first_above` meets its contract. Assumes nothing.
+use Rattle.points.specs.Geometry.{obstacle-above}
+use mir.Facts.{to_z-of_z}
+use borrow.Author.Rules.{rules}
+use Rattle.points.proofs.first_above.Goals as goal
+
+pub returns : goal.returns
+returns c =
+    let a = c.args in
+    let e = c.smaller.ensures in
+    let x1 = c.obstacle_x1.ensures in
+    let x2 = c.obstacle_x2.ensures in
+    let y1 = c.obstacle_y1.ensures in
+    let y2 = c.obstacle_y2.ensures in
+    obstacle-above a.obstacles.now a.k a.x a.y a.end a.dx a.dy c.requires.1 c.requires.2
+    (rw (to_z-of_z c.ranges.dx, x1, x2) at c.above_on_axis.ensures)
+    (rw (to_z-of_z c.ranges.dy, y1, y2) at c.above_on_axis-2.ensures)
+    e.0
+    e.1
+    e.2
