@@ -58,7 +58,7 @@ difference_positive a b =
 
 -- the same of a difference read back from its bits
 pub difference_read : {d : ℤ} → mag d < 2 ^ 31 → to_z w32 (of_z w32 d) ≡ d
-difference_read f = to_z-of_z (record { sfits = f })
+difference_read f = to_z-of_z {w = w32} (record { sfits = f })
 
 pub negative_read : {d : ℤ} (a b : ℕ) → mag d < 2 ^ 31 → d ≡ sub_ℕ a b → lt_z (to_z w32 (of_z w32 d)) (pos 0) ≡ ltb a b
 negative_read a b f e = rw (difference_read f, e) (difference_negative a b)

@@ -19,5 +19,5 @@ returns c =
     let l : c.steps_between.result + c.steps_between-2.result ≡ wire_length a.nodes.now a.wires.now a.i =
     rw (c.steps_between.ensures, c.steps_between-2.ensures, x, px, y, py, p)
     in
-    let k = length-small a.nodes.now a.wires.now a.i (λ k. omega (arith, c.shared_slice_known-1.given k)) c.requires in
+    let k = length-small a.nodes.now a.wires.now a.i (λ k. omega (arith, c.type_inv.nodes k)) c.requires in
     (l, rw l k)

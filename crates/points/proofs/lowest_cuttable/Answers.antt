@@ -18,11 +18,11 @@ lowest_free-requires c =
     let dx = c.direction-dx in
     let py = c.node_y.ensures in
     let dy = c.direction-dy in
-    let ex = to_z-of_z {w = w32} {z = dx.result} (record { sfits = dx.type-inv }) in
-    let ey = to_z-of_z {w = w32} {z = dy.result} (record { sfits = dy.type-inv }) in
+    let ex = to_z-of_z {w = w32} {z = dx.result} (record { sfits = dx.type_inv }) in
+    let ey = to_z-of_z {w = w32} {z = dy.result} (record { sfits = dy.type_inv }) in
     let l : c.length_of.result ≤ wire_length a.nodes.now a.wires.now a.i = omega (arith, c.length_of.ensures.0) in
-    let rx = reach-x a.nodes.now a.wires.now a.i (λ k. omega (arith, c.shared_slice_known-1.given k)) c.requires.0 l in
-    let ry = reach-y a.nodes.now a.wires.now a.i (λ k. omega (arith, c.shared_slice_known-1.given k)) c.requires.0 l in
+    let rx = reach-x a.nodes.now a.wires.now a.i (λ k. omega (arith, c.type_inv.nodes k)) c.requires.0 l in
+    let ry = reach-y a.nodes.now a.wires.now a.i (λ k. omega (arith, c.type_inv.nodes k)) c.requires.0 l in
     (rw (ex, dx.ensures, x, px, p) rx, rw (ey, dy.ensures, y, py, p) ry, c.requires.1)
 
 pub returns : goal.returns
@@ -36,7 +36,7 @@ returns c =
     let py = c.node_y.ensures in
     let dy = c.direction-dy in
     let w = c.wire_layer.ensures in
-    let ex = to_z-of_z {w = w32} {z = dx.result} (record { sfits = dx.type-inv }) in
-    let ey = to_z-of_z {w = w32} {z = dy.result} (record { sfits = dy.type-inv }) in
+    let ex = to_z-of_z {w = w32} {z = dx.result} (record { sfits = dx.type_inv }) in
+    let ey = to_z-of_z {w = w32} {z = dy.result} (record { sfits = dy.type_inv }) in
     lowest_ap (barred_is a.nodes.now a.wires.now a.obstacles.now a.i)
     (rw (ex, ey, dx.ensures, dy.ensures, w, x, y, px, py, p, c.length_of.ensures.0) at c.lowest_free.ensures)

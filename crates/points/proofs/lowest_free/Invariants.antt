@@ -13,7 +13,7 @@ use borrow.Author.Rules.{rules}
 use Rattle.points.proofs.lowest_free.Given as goal
 
 abbrev pub invariant-loop-t : goal.invariant-loop-t
-invariant-loop-t l = (l.count ≡ obstacle_count newest l.obstacles) × (l.first ≤ l.t) × ((s : ℕ) → l.first ≤ s → s < l.t → barred_at l.obstacles l.layer l.x l.y (to_z w32 l.dx) (to_z w32 l.dy) s ≡ true)
+invariant-loop-t l = (l.count ≡ obstacle_count newest l.obstacles) × (l.first ≤ l.t) × ((s : ℕ) → l.first ≤ s → s < l.t → barred_at l.obstacles l.layer l.x l.y l.dx l.dy s ≡ true)
 
 abbrev pub decreases-loop-t : goal.decreases-loop-t
 decreases-loop-t l = l.end - l.t

@@ -12,8 +12,8 @@ at_step-requires c =
     let p = c.wire_parent.ensures in
     let px = c.node_y-to.ensures in
     let d = c.direction in
-    let r = reach-y a.nodes.now a.wires.now a.i (λ k. omega (arith, c.shared_slice_known-1.given k)) c.requires.0 c.requires.1 in
-    rw (to_z-of_z (record { sfits = d.type-inv }), d.ensures, x, px, p) r
+    let r = reach-y a.nodes.now a.wires.now a.i (λ k. omega (arith, c.type_inv.nodes k)) c.requires.0 c.requires.1 in
+    rw (to_z-of_z (record { sfits = d.type_inv }), d.ensures, x, px, p) r
 
 pub returns : goal.returns
 returns c =
@@ -23,4 +23,4 @@ returns c =
     let px = c.node_y-to.ensures in
     let d = c.direction in
     let e = point_y_is a.nodes.now a.wires.now a.i a.t in
-    rw (c.at_step.ensures, to_z-of_z (record { sfits = d.type-inv }), d.ensures, x, px, p) e
+    rw (c.at_step.ensures, to_z-of_z (record { sfits = d.type_inv }), d.ensures, x, px, p) e

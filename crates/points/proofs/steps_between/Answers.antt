@@ -34,28 +34,28 @@ below : (c : goal.Then-d-lt0) → c.args.to < c.args.from
 below c =
     let d = c.difference-d in
     let a = c.args in
-    ltb-true a.to a.from (sym (negative_read a.to a.from d.type-inv d.ensures) ∙ c.if-d-lt0.true)
+    ltb-true a.to a.from (sym (negative_read a.to a.from d.type_inv d.ensures) ∙ c.if-d-lt0.true)
 
 above : (c : goal.Else-d-lt0) → c.args.from ≤ c.args.to
 above c =
     let d = c.difference-d in
     let a = c.args in
-    ltb-false a.to a.from (sym (negative_read a.to a.from d.type-inv d.ensures) ∙ c.if-d-lt0.false)
+    ltb-false a.to a.from (sym (negative_read a.to a.from d.type_inv d.ensures) ∙ c.if-d-lt0.false)
 
 read_below : (c : goal.Then-d-lt0) → to_z w32 (of_z w32 (pos 0 -ℤ to_z w32 (of_z w32 c.difference-d.result))) ≡ pos (c.args.from - c.args.to)
 read_below c =
     let d = c.difference-d in
-    negated-read c.args.from c.args.to d.result c.ranges.from.fits c.ranges.to.fits d.type-inv d.ensures (below c)
+    negated-read c.args.from c.args.to d.result c.ranges.from.fits c.ranges.to.fits d.type_inv d.ensures (below c)
 
 read_above : (c : goal.Else-d-lt0) → to_z w32 (of_z w32 c.difference-d.result) ≡ pos (c.args.to - c.args.from)
 read_above c =
     let d = c.difference-d in
-    kept_read c.args.from c.args.to d.result c.ranges.from.fits c.ranges.to.fits d.type-inv d.ensures (above c)
+    kept_read c.args.from c.args.to d.result c.ranges.from.fits c.ranges.to.fits d.type_inv d.ensures (above c)
 
 pub overflow_sub-result : goal.overflow_sub-result
 overflow_sub-result c =
     let d = c.difference-d in
-    negated_fits c.args.from c.args.to d.result c.ranges.from.fits c.ranges.to.fits d.type-inv d.ensures (below c)
+    negated_fits c.args.from c.args.to d.result c.ranges.from.fits c.ranges.to.fits d.type_inv d.ensures (below c)
 
 pub overflow_cast-result : goal.overflow_cast-result
 overflow_cast-result c = rw (read_below c) (tt, record { fits = omega (arith, c.ranges.from) })
