@@ -14,12 +14,12 @@ is_present-requires c = c.requires.0.stored c.args.i c.requires.1
 pub lowest_cuttable-requires : goal.lowest_cuttable-requires
 lowest_cuttable-requires c =
     let a = c.args in
-    (checked c.requires.0 a.i (is_present-positive a.wires.now a.stage a.i ((let h : is_present c.args.wires.now c.args.stage c.args.i ≡ true = sym c.is_present.ensures ∙ c.if-is_present.true in h))) c.requires.1, omega arith)
+    (checked c.requires.0 a.i (is_present-positive a.wires.now a.stage a.i ((let it : is_present c.args.wires.now c.args.stage c.args.i ≡ true = sym c.is_present.ensures ∙ c.if-is_present.true in it))) c.requires.1, omega arith)
 
 pub returns-then-is_present : goal.returns-then-is_present
 returns-then-is_present c =
     let a = c.args in
-    lowest-present a.nodes.now a.wires.now a.obstacles.now a.stage a.i c.requires.1 ((let h : is_present c.args.wires.now c.args.stage c.args.i ≡ true = sym c.is_present.ensures ∙ c.if-is_present.true in h)) c.lowest_cuttable.result c.lowest_cuttable.ensures
+    lowest-present a.nodes.now a.wires.now a.obstacles.now a.stage a.i c.requires.1 ((let it : is_present c.args.wires.now c.args.stage c.args.i ≡ true = sym c.is_present.ensures ∙ c.if-is_present.true in it)) c.lowest_cuttable.result c.lowest_cuttable.ensures
 
 pub returns : goal.returns
 returns c =

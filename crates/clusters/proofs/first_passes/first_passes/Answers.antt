@@ -18,16 +18,16 @@ pub find_roots-requires : goal.find_roots-requires
 find_roots-requires c =
     record {
       wired = c.requires.wired;
-      nodes_in_bounds = ((let h : node_count ((let h : List ℕ = c.args.nodes.now in h)) ≤ length ((let h : List ℕ = c.find_cuttable.new.1.1.1.1.0 in h)) = omega (arith, c.find_cuttable.auto.1.1.1.1.0, c.requires.first_lengths.los) in h), c.requires.first_lengths.roots);
+      nodes_in_bounds = ((let it : node_count ((c.args.nodes.now)) ≤ length ((c.find_cuttable.new.lo)) = omega (arith, c.find_cuttable.auto.lo, c.requires.first_lengths.los) in it), c.requires.first_lengths.roots);
     }
 
 pub find_hosts-requires : goal.find_hosts-requires
 find_hosts-requires c =
     let a = c.args in record {
       wired = c.requires.wired;
-      nodes_in_bounds = ((let h : node_count ((let h : List ℕ = c.args.nodes.now in h)) ≤ length ((let h : List ℕ = c.find_cuttable.new.1.1.1.1.0 in h)) = omega (arith, c.find_cuttable.auto.1.1.1.1.0, c.requires.first_lengths.los) in h), (let h : node_count ((let h : List ℕ = c.args.nodes.now in h)) ≤ length ((let h : List ℕ = c.find_roots.new.1.1.1.1.0 in h)) = omega (arith, c.find_roots.auto.1.1.1.1.0, c.requires.first_lengths.roots) in h));
+      nodes_in_bounds = ((let it : node_count ((c.args.nodes.now)) ≤ length ((c.find_cuttable.new.lo)) = omega (arith, c.find_cuttable.auto.lo, c.requires.first_lengths.los) in it), (let it : node_count ((c.args.nodes.now)) ≤ length ((c.find_roots.new.root)) = omega (arith, c.find_roots.auto.root, c.requires.first_lengths.roots) in it));
       nodes_in_bounds_2 = c.requires.first_lengths.hosts;
-      lo_value = first-none a.nodes.now a.wires.now a.obstacles.now a.stage ((let h : List ℕ = c.find_cuttable.new.1.1.1.1.0 in h)) ((let h : List ℕ = c.find_cuttable.new.1.1.1.1.1.0 in h)) c.find-cuttable.ensures c.requires.wired.some;
+      lo_value = first-none a.nodes.now a.wires.now a.obstacles.now a.stage ((c.find_cuttable.new.lo)) ((c.find_cuttable.new.hi)) c.find_cuttable.ensures c.requires.wired.some;
     }
 
 pub find_components-requires : goal.find_components-requires
@@ -40,71 +40,71 @@ find_components-requires c =
 pub mark_sources-requires : goal.mark_sources-requires
 mark_sources-requires c =
     record {
-      nodes_in_bounds = ((let h : node_count ((let h : List ℕ = c.args.nodes.now in h)) ≤ length ((let h : List ℕ = c.find_components.new.1.1.1.0 in h)) = omega (arith, c.find_components.auto.1.1.1.0, c.requires.first_lengths.components) in h), c.requires.first_lengths.marks);
-      falling = (let h : Falling (node_count ((let h : List ℕ = c.args.nodes.now in h))) ((let h : List ℕ = c.find_components.new.1.1.1.0 in h)) = let a = c.args in leads_falling (is_present a.wires.now a.stage) (wire_parent a.wires.now) (node_count a.nodes.now) ((let h : List ℕ = c.find_components.new.1.1.1.0 in h)) (λ j p. is_present-lower c.requires.wired a.stage j p) c.find_components.ensures in h);
+      nodes_in_bounds = ((let it : node_count ((c.args.nodes.now)) ≤ length ((c.find_components.new.component)) = omega (arith, c.find_components.auto.component, c.requires.first_lengths.components) in it), c.requires.first_lengths.marks);
+      falling = (let it : Falling (node_count ((c.args.nodes.now))) ((c.find_components.new.component)) = let a = c.args in leads_falling (is_present a.wires.now a.stage) (wire_parent a.wires.now) (node_count a.nodes.now) ((c.find_components.new.component)) (λ j p. is_present-lower c.requires.wired a.stage j p) c.find_components.ensures in it);
     }
 
 pub count_gates-requires : goal.count_gates-requires
 count_gates-requires c =
     record {
-      nodes_in_bounds = ((let h : node_count ((let h : List ℕ = c.args.nodes.now in h)) ≤ length ((let h : List ℕ = c.find_roots.new.1.1.1.1.0 in h)) = omega (arith, c.find_roots.auto.1.1.1.1.0, c.requires.first_lengths.roots) in h), (let h : node_count ((let h : List ℕ = c.args.nodes.now in h)) ≤ length ((let h : List ℕ = c.find_components.new.1.1.1.0 in h)) = omega (arith, c.find_components.auto.1.1.1.0, c.requires.first_lengths.components) in h));
-      nodes_in_bounds_2 = ((let h : node_count ((let h : List ℕ = c.args.nodes.now in h)) ≤ length ((let h : List Bool = c.mark_sources.new.1.1.0 in h)) = omega (arith, c.mark_sources.auto.1.1.0, c.requires.first_lengths.marks) in h), c.requires.first_lengths.gate_counts);
-      falling = ((let h : Falling (node_count ((let h : List ℕ = c.args.nodes.now in h))) ((let h : List ℕ = c.find_roots.new.1.1.1.1.0 in h)) = let a = c.args in leads_falling (whole a.wires.now a.stage ((let h : List ℕ = c.find_cuttable.new.1.1.1.1.0 in h))) (wire_parent a.wires.now) (node_count a.nodes.now) ((let h : List ℕ = c.find_roots.new.1.1.1.1.0 in h)) (λ j p. whole-lower c.requires.wired a.stage ((let h : List ℕ = c.find_cuttable.new.1.1.1.1.0 in h)) j p) c.find_roots.ensures in h), (let h : Falling (node_count ((let h : List ℕ = c.args.nodes.now in h))) ((let h : List ℕ = c.find_components.new.1.1.1.0 in h)) = let a = c.args in leads_falling (is_present a.wires.now a.stage) (wire_parent a.wires.now) (node_count a.nodes.now) ((let h : List ℕ = c.find_components.new.1.1.1.0 in h)) (λ j p. is_present-lower c.requires.wired a.stage j p) c.find_components.ensures in h));
+      nodes_in_bounds = ((let it : node_count ((c.args.nodes.now)) ≤ length ((c.find_roots.new.root)) = omega (arith, c.find_roots.auto.root, c.requires.first_lengths.roots) in it), (let it : node_count ((c.args.nodes.now)) ≤ length ((c.find_components.new.component)) = omega (arith, c.find_components.auto.component, c.requires.first_lengths.components) in it));
+      nodes_in_bounds_2 = ((let it : node_count ((c.args.nodes.now)) ≤ length ((c.mark_sources.new.sourced)) = omega (arith, c.mark_sources.auto.sourced, c.requires.first_lengths.marks) in it), c.requires.first_lengths.gate_counts);
+      falling = ((let it : Falling (node_count ((c.args.nodes.now))) ((c.find_roots.new.root)) = let a = c.args in leads_falling (whole a.wires.now a.stage ((c.find_cuttable.new.lo))) (wire_parent a.wires.now) (node_count a.nodes.now) ((c.find_roots.new.root)) (λ j p. whole-lower c.requires.wired a.stage ((c.find_cuttable.new.lo)) j p) c.find_roots.ensures in it), (let it : Falling (node_count ((c.args.nodes.now))) ((c.find_components.new.component)) = let a = c.args in leads_falling (is_present a.wires.now a.stage) (wire_parent a.wires.now) (node_count a.nodes.now) ((c.find_components.new.component)) (λ j p. is_present-lower c.requires.wired a.stage j p) c.find_components.ensures in it));
     }
 
 pub weigh_clusters-requires : goal.weigh_clusters-requires
 weigh_clusters-requires c =
     record {
-      wired = (c.requires.wired, (let h : EndsInside ((let h : List ℕ = c.args.nodes.now in h)) ((let h : List ℕ = c.args.wires.now in h)) ((let h : List ℕ = c.find_cuttable.new.1.1.1.1.0 in h)) ((let h : List ℕ = c.find_cuttable.new.1.1.1.1.1.0 in h)) = let a = c.args in inside_of a.nodes.now a.wires.now a.obstacles.now a.stage ((let h : List ℕ = c.find_cuttable.new.1.1.1.1.0 in h)) ((let h : List ℕ = c.find_cuttable.new.1.1.1.1.1.0 in h)) c.find_cuttable.ensures in h));
-      nodes_in_bounds = ((let h : node_count ((let h : List ℕ = c.args.nodes.now in h)) ≤ length ((let h : List ℕ = c.find_cuttable.new.1.1.1.1.0 in h)) = omega (arith, c.find_cuttable.auto.1.1.1.1.0, c.requires.first_lengths.los) in h), (let h : node_count ((let h : List ℕ = c.args.nodes.now in h)) ≤ length ((let h : List ℕ = c.find_cuttable.new.1.1.1.1.1.0 in h)) = omega (arith, c.find_cuttable.auto.1.1.1.1.1.0, c.requires.first_lengths.his) in h));
-      nodes_in_bounds_2 = ((let h : node_count ((let h : List ℕ = c.args.nodes.now in h)) ≤ length ((let h : List ℕ = c.find_roots.new.1.1.1.1.0 in h)) = omega (arith, c.find_roots.auto.1.1.1.1.0, c.requires.first_lengths.roots) in h), (let c : node_count ((let c : List ℕ = c.args.nodes.now in c)) ≤ length ((let c : List ℕ = c.find_hosts.new.1.1.1.1.0 in c)) = omega (arith, c.find_hosts.auto.1.1.1.1.0, c.requires.first_lengths.hosts) in c));
+      wired = (c.requires.wired, (let it : EndsInside ((c.args.nodes.now)) ((c.args.wires.now)) ((c.find_cuttable.new.lo)) ((c.find_cuttable.new.hi)) = let a = c.args in inside_of a.nodes.now a.wires.now a.obstacles.now a.stage ((c.find_cuttable.new.lo)) ((c.find_cuttable.new.hi)) c.find_cuttable.ensures in it));
+      nodes_in_bounds = ((let it : node_count ((c.args.nodes.now)) ≤ length ((c.find_cuttable.new.lo)) = omega (arith, c.find_cuttable.auto.lo, c.requires.first_lengths.los) in it), (let it : node_count ((c.args.nodes.now)) ≤ length ((c.find_cuttable.new.hi)) = omega (arith, c.find_cuttable.auto.hi, c.requires.first_lengths.his) in it));
+      nodes_in_bounds_2 = ((let it : node_count ((c.args.nodes.now)) ≤ length ((c.find_roots.new.root)) = omega (arith, c.find_roots.auto.root, c.requires.first_lengths.roots) in it), (let it : node_count ((c.args.nodes.now)) ≤ length ((c.find_hosts.new.host)) = omega (arith, c.find_hosts.auto.host, c.requires.first_lengths.hosts) in it));
       nodes_in_bounds_3 = c.requires.first_lengths.weights;
-      falling = ((let h : Falling (node_count ((let h : List ℕ = c.args.nodes.now in h))) ((let h : List ℕ = c.find_roots.new.1.1.1.1.0 in h)) = let a = c.args in leads_falling (whole a.wires.now a.stage ((let h : List ℕ = c.find_cuttable.new.1.1.1.1.0 in h))) (wire_parent a.wires.now) (node_count a.nodes.now) ((let h : List ℕ = c.find_roots.new.1.1.1.1.0 in h)) (λ j p. whole-lower c.requires.wired a.stage ((let h : List ℕ = c.find_cuttable.new.1.1.1.1.0 in h)) j p) c.find_roots.ensures in h), (let c : Falling (node_count ((let c : List ℕ = c.args.nodes.now in c))) ((let c : List ℕ = c.find_hosts.new.1.1.1.1.0 in c)) = hosts-falling c.requires.wired ((let c : List ℕ = c.find_cuttable.new.1.1.1.1.0 in c)) ((let c : List ℕ = c.find_roots.new.1.1.1.1.0 in c)) ((let c : List ℕ = c.find_hosts.new.1.1.1.1.0 in c)) ((let c : EndsInside ((let c : List ℕ = c.args.nodes.now in c)) ((let c : List ℕ = c.args.wires.now in c)) ((let c : List ℕ = c.find_cuttable.new.1.1.1.1.0 in c)) ((let c : List ℕ = c.find_cuttable.new.1.1.1.1.1.0 in c)) = let a = c.args in inside_of a.nodes.now a.wires.now a.obstacles.now a.stage ((let c : List ℕ = c.find_cuttable.new.1.1.1.1.0 in c)) ((let c : List ℕ = c.find_cuttable.new.1.1.1.1.1.0 in c)) c.find_cuttable.ensures in c)).wire ((let c : Falling (node_count ((let c : List ℕ = c.args.nodes.now in c))) ((let c : List ℕ = c.find_roots.new.1.1.1.1.0 in c)) = let a = c.args in leads_falling (whole a.wires.now a.stage ((let c : List ℕ = c.find_cuttable.new.1.1.1.1.0 in c))) (wire_parent a.wires.now) (node_count a.nodes.now) ((let c : List ℕ = c.find_roots.new.1.1.1.1.0 in c)) (λ j p. whole-lower c.requires.wired a.stage ((let c : List ℕ = c.find_cuttable.new.1.1.1.1.0 in c)) j p) c.find_roots.ensures in c)) c.find_hosts.ensures in c));
+      falling = ((let it : Falling (node_count ((c.args.nodes.now))) ((c.find_roots.new.root)) = let a = c.args in leads_falling (whole a.wires.now a.stage ((c.find_cuttable.new.lo))) (wire_parent a.wires.now) (node_count a.nodes.now) ((c.find_roots.new.root)) (λ j p. whole-lower c.requires.wired a.stage ((c.find_cuttable.new.lo)) j p) c.find_roots.ensures in it), (let it : Falling (node_count ((c.args.nodes.now))) ((c.find_hosts.new.host)) = hosts-falling c.requires.wired ((c.find_cuttable.new.lo)) ((c.find_roots.new.root)) ((c.find_hosts.new.host)) ((let it : EndsInside ((c.args.nodes.now)) ((c.args.wires.now)) ((c.find_cuttable.new.lo)) ((c.find_cuttable.new.hi)) = let a = c.args in inside_of a.nodes.now a.wires.now a.obstacles.now a.stage ((c.find_cuttable.new.lo)) ((c.find_cuttable.new.hi)) c.find_cuttable.ensures in it)).wire ((let it : Falling (node_count ((c.args.nodes.now))) ((c.find_roots.new.root)) = let a = c.args in leads_falling (whole a.wires.now a.stage ((c.find_cuttable.new.lo))) (wire_parent a.wires.now) (node_count a.nodes.now) ((c.find_roots.new.root)) (λ j p. whole-lower c.requires.wired a.stage ((c.find_cuttable.new.lo)) j p) c.find_roots.ensures in it)) c.find_hosts.ensures in it));
     }
 
 pub shape_of-lo : goal.shape_of-lo
-shape_of-lo c = (cut₁ (roots₂ c)).find-cuttable.auto.1.1.1.1.0
+shape_of-lo c = c.find_cuttable.auto.lo
 
 pub shape_of-hi : goal.shape_of-hi
-shape_of-hi c = (cut₁ (roots₂ c)).find-cuttable.auto.1.1.1.1.1.0
+shape_of-hi c = c.find_cuttable.auto.hi
 
 pub shape_of-root : goal.shape_of-root
-shape_of-root c = (roots₂ c).find-roots.auto.1.1.1.1.0
+shape_of-root c = c.find_roots.auto.root
 
 pub shape_of-host : goal.shape_of-host
-shape_of-host c = c.find-hosts.auto.1.1.1.1.0
+shape_of-host c = c.find_hosts.auto.host
 
 pub shape_of-component : goal.shape_of-component
-shape_of-component c = c.find-components.auto.1.1.1.0
+shape_of-component c = c.find_components.auto.component
 
 pub shape_of-sourced : goal.shape_of-sourced
-shape_of-sourced c = c.mark-sources.auto.1.1.0
+shape_of-sourced c = c.mark_sources.auto.sourced
 
 pub shape_of-fixed : goal.shape_of-fixed
-shape_of-fixed c = c.weigh_clusters.auto.1.1.1.1.1.1.1.0
+shape_of-fixed c = c.weigh_clusters.auto.fixed
 
 pub shape_of-gates : goal.shape_of-gates
-shape_of-gates c = c.count-gates.auto.1.1.1.1.0
+shape_of-gates c = c.count_gates.auto.gates
 
 pub returns : goal.returns
 returns c =
     let a = c.args in
     let nodes : Bytes a.nodes.now = λ j. omega (arith, c.type_inv.nodes j) in
     let wires : Bytes a.wires.now = λ j. omega (arith, c.type_inv.wires j) in
-    let filled : Filled a.nodes.now a.wires.now a.obstacles.now a.stage ((let h : List ℕ = c.find_cuttable.new.1.1.1.1.0 in h)) ((let h : List ℕ = c.find_cuttable.new.1.1.1.1.1.0 in h)) ((let h : List ℕ = c.find_roots.new.1.1.1.1.0 in h)) ((let h : List ℕ = c.find_hosts.new.1.1.1.1.0 in h)) ((let h : List ℕ = c.find_components.new.1.1.1.0 in h)) ((let h : List Bool = c.mark_sources.new.1.1.0 in h)) ((let c : List ℕ = c.weigh_clusters.new.1.1.1.1.1.1.1.0 in c)) ((let c : List ℕ = c.count_gates.new.1.1.1.1.0 in c)) =
+    let filled : Filled a.nodes.now a.wires.now a.obstacles.now a.stage ((c.find_cuttable.new.lo)) ((c.find_cuttable.new.hi)) ((c.find_roots.new.root)) ((c.find_hosts.new.host)) ((c.find_components.new.component)) ((c.mark_sources.new.sourced)) ((c.weigh_clusters.new.fixed)) ((c.count_gates.new.gates)) =
     record {
-      ends = c.find-cuttable.ensures;
-      roots = c.find-roots.ensures;
-      hosts = c.find-hosts.ensures;
-      components = c.find-components.ensures;
-      sources = c.mark-sources.ensures;
-      gated = c.count-gates.ensures;
+      ends = c.find_cuttable.ensures;
+      roots = c.find_roots.ensures;
+      hosts = c.find_hosts.ensures;
+      components = c.find_components.ensures;
+      sources = c.mark_sources.ensures;
+      gated = c.count_gates.ensures;
       weighed = c.weigh_clusters.ensures;
     } in
     record {
-      fits = fits_of a.nodes.now a.wires.now a.obstacles.now a.stage c.requires.wired ((let h : List ℕ = c.find_cuttable.new.1.1.1.1.0 in h)) ((let h : List ℕ = c.find_cuttable.new.1.1.1.1.1.0 in h)) ((let h : List ℕ = c.find_roots.new.1.1.1.1.0 in h)) ((let h : List ℕ = c.find_hosts.new.1.1.1.1.0 in h)) ((let h : List ℕ = c.find_components.new.1.1.1.0 in h)) ((let h : List Bool = c.mark_sources.new.1.1.0 in h)) ((let c : List ℕ = c.weigh_clusters.new.1.1.1.1.1.1.1.0 in c)) ((let c : List ℕ = c.count_gates.new.1.1.1.1.0 in c)) filled;
-      components_fall = (let h : Falling (node_count ((let h : List ℕ = c.args.nodes.now in h))) ((let h : List ℕ = c.find_components.new.1.1.1.0 in h)) = let a = c.args in leads_falling (is_present a.wires.now a.stage) (wire_parent a.wires.now) (node_count a.nodes.now) ((let h : List ℕ = c.find_components.new.1.1.1.0 in h)) (λ j p. is_present-lower c.requires.wired a.stage j p) c.find_components.ensures in h);
-      sources = c.mark-sources.ensures;
-      light = light_of a.nodes.now a.wires.now a.obstacles.now a.stage c.requires.wired nodes wires ((let h : List ℕ = c.find_cuttable.new.1.1.1.1.0 in h)) ((let h : List ℕ = c.find_cuttable.new.1.1.1.1.1.0 in h)) ((let h : List ℕ = c.find_roots.new.1.1.1.1.0 in h)) ((let h : List ℕ = c.find_hosts.new.1.1.1.1.0 in h)) ((let h : List ℕ = c.find_components.new.1.1.1.0 in h)) ((let h : List Bool = c.mark_sources.new.1.1.0 in h)) ((let c : List ℕ = c.weigh_clusters.new.1.1.1.1.1.1.1.0 in c)) ((let c : List ℕ = c.count_gates.new.1.1.1.1.0 in c)) filled;
-      short = short_of a.nodes.now a.wires.now a.obstacles.now a.stage c.requires.wired nodes ((let h : List ℕ = c.find_cuttable.new.1.1.1.1.0 in h)) ((let h : List ℕ = c.find_cuttable.new.1.1.1.1.1.0 in h)) c.find-cuttable.ensures;
+      fits = fits_of a.nodes.now a.wires.now a.obstacles.now a.stage c.requires.wired ((c.find_cuttable.new.lo)) ((c.find_cuttable.new.hi)) ((c.find_roots.new.root)) ((c.find_hosts.new.host)) ((c.find_components.new.component)) ((c.mark_sources.new.sourced)) ((c.weigh_clusters.new.fixed)) ((c.count_gates.new.gates)) filled;
+      components_fall = (let it : Falling (node_count ((c.args.nodes.now))) ((c.find_components.new.component)) = let a = c.args in leads_falling (is_present a.wires.now a.stage) (wire_parent a.wires.now) (node_count a.nodes.now) ((c.find_components.new.component)) (λ j p. is_present-lower c.requires.wired a.stage j p) c.find_components.ensures in it);
+      sources = c.mark_sources.ensures;
+      light = light_of a.nodes.now a.wires.now a.obstacles.now a.stage c.requires.wired nodes wires ((c.find_cuttable.new.lo)) ((c.find_cuttable.new.hi)) ((c.find_roots.new.root)) ((c.find_hosts.new.host)) ((c.find_components.new.component)) ((c.mark_sources.new.sourced)) ((c.weigh_clusters.new.fixed)) ((c.count_gates.new.gates)) filled;
+      short = short_of a.nodes.now a.wires.now a.obstacles.now a.stage c.requires.wired nodes ((c.find_cuttable.new.lo)) ((c.find_cuttable.new.hi)) c.find_cuttable.ensures;
     }

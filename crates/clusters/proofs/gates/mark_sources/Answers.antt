@@ -10,6 +10,7 @@ use Rattle.net.specs.Net.{node_flags, is_source}
 use Rattle.clusters.specs.FirstPasses.{source_in}
 use Rattle.clusters.specs.Turns.{mark_here, mark_not}
 use Rattle.clusters.proofs.gates.mark_sources.Goals as goal
+use Rattle.clusters.proofs.gates.mark_sources.Goals.{then-is_source, else-is_source}
 
 pub loop-i-init : goal.loop-i-init
 loop-i-init c = (omega arith, omega arith, λ j p. absurd (native.Mathlib.Nat.lt_irrefl 0 (omega arith)))
@@ -25,18 +26,18 @@ loop-i-preserved c =
     let l = c.loop-i in
     let a = c.args in (
       omega arith,
-      ⊎_elim
-          (λ w. ap length w.2 ∙ (length-set (set l.sourced l.i false) (get_or a.component.now l.i 0) _ ∙ (length-set l.sourced l.i false ∙ l.invariant.1)))
-          (λ w. ap length w.1 ∙ (length-set l.sourced l.i false ∙ l.invariant.1))
-          c.if-is_source.branch,
-      ⊎_elim
-          (λ w.
-          rw w.2
-          (mark_here a.component.now (λ j. is_source (node_flags a.nodes.now j)) l.i l.sourced (omega arith) (λ j p. c.requires.falling j (omega arith)) l.invariant.2 (sym ((let h : c.is_source.result ≡ is_source (node_flags c.args.nodes.now c.loop-i.i) = c.is_source.ensures ∙ ap is_source c.node_flags.ensures in h)) ∙ w.0.taken)))
-          (λ w.
-          rw w.1
-          (mark_not a.component.now (λ j. is_source (node_flags a.nodes.now j)) l.i l.sourced (omega arith) (λ j p. c.requires.falling j (omega arith)) l.invariant.2 (sym ((let h : c.is_source.result ≡ is_source (node_flags c.args.nodes.now c.loop-i.i) = c.is_source.ensures ∙ ap is_source c.node_flags.ensures in h)) ∙ w.0.left)))
-          c.if-is_source.branch,
+      elim c.if-is_source.branch [
+        then-is_source w ↦ ap length w.sourced-is ∙ (length-set (set l.sourced l.i false) (get_or a.component.now l.i 0) _ ∙ (length-set l.sourced l.i false ∙ l.invariant.1))
+        | else-is_source w ↦ ap length w.sourced-is ∙ (length-set l.sourced l.i false ∙ l.invariant.1)
+      ],
+      elim c.if-is_source.branch [
+        then-is_source w ↦
+          rw w.sourced-is
+          (mark_here a.component.now (λ j. is_source (node_flags a.nodes.now j)) l.i l.sourced (omega arith) (λ j p. c.requires.falling j (omega arith)) l.invariant.2 (sym ((let it : c.is_source.result ≡ is_source (node_flags c.args.nodes.now c.loop-i.i) = c.is_source.ensures ∙ ap is_source c.node_flags.ensures in it)) ∙ w.if-is_source.true))
+        | else-is_source w ↦
+          rw w.sourced-is
+          (mark_not a.component.now (λ j. is_source (node_flags a.nodes.now j)) l.i l.sourced (omega arith) (λ j p. c.requires.falling j (omega arith)) l.invariant.2 (sym ((let it : c.is_source.result ≡ is_source (node_flags c.args.nodes.now c.loop-i.i) = c.is_source.ensures ∙ ap is_source c.node_flags.ensures in it)) ∙ w.if-is_source.false))
+      ],
     )
 
 pub shape_of-sourced : goal.shape_of-sourced

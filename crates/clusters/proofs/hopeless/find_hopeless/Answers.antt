@@ -11,6 +11,7 @@ use Rattle.laws.specs.Sums.{any_next, or_right}
 use Rattle.clusters.specs.Turns.{mark_here, mark_not}
 use Rattle.clusters.specs.Hopeless.{hopeless_at, any_hopeless, hopeless_in}
 use Rattle.clusters.proofs.hopeless.find_hopeless.Goals as goal
+use Rattle.clusters.proofs.hopeless.find_hopeless.Goals.{then-is_hopeless, else-is_hopeless}
 
 pub loop-r-init : goal.loop-r-init
 unfolding any
@@ -32,18 +33,9 @@ loop-r-preserved c =
     let test = hopeless_at c.args.fixed.now c.args.gates.now c.args.limit in
     let more = any_next l.r test in (
       omega arith,
-      ⊎_elim
-          (λ w. ap length w.2 ∙ (length-set (set l.hopeless l.r false) (get_or component l.r 0) _ ∙ (length-set l.hopeless l.r false ∙ l.invariant.1)))
-          (λ w. ap length w.1 ∙ (length-set l.hopeless l.r false ∙ l.invariant.1))
-          c.if-is_hopeless.branch,
-      ⊎_elim
-          (λ w. rw w.2 (mark_here component test l.r l.hopeless (omega arith) (λ j p. c.requires.n_in_bounds.1 j (omega arith)) l.invariant.2 (sym c.is_hopeless.ensures ∙ w.0.taken)))
-          (λ w. rw w.1 (mark_not component test l.r l.hopeless (omega arith) (λ j p. c.requires.n_in_bounds.1 j (omega arith)) l.invariant.2 (sym c.is_hopeless.ensures ∙ w.0.left)))
-          c.if-is_hopeless.branch,
-      ⊎_elim
-          (λ w. w.3 ∙ sym (more ∙ or_right (any_hopeless l.r c.args.fixed.now c.args.gates.now c.args.limit) (sym c.is_hopeless.ensures ∙ w.0.taken)))
-          (λ w. w.2 ∙ (l.invariant.3 ∙ sym (more ∙ or-none (any_hopeless l.r c.args.fixed.now c.args.gates.now c.args.limit) (sym c.is_hopeless.ensures ∙ w.0.left))))
-          c.if-is_hopeless.branch,
+      elim c.if-is_hopeless.branch [ then-is_hopeless w ↦ ap length w.hopeless-is ∙ (length-set (set l.hopeless l.r false) (get_or component l.r 0) _ ∙ (length-set l.hopeless l.r false ∙ l.invariant.1)) | else-is_hopeless w ↦ ap length w.hopeless-is ∙ (length-set l.hopeless l.r false ∙ l.invariant.1) ],
+      elim c.if-is_hopeless.branch [ then-is_hopeless w ↦ rw w.hopeless-is (mark_here component test l.r l.hopeless (omega arith) (λ j p. c.requires.n_in_bounds.1 j (omega arith)) l.invariant.2 (sym c.is_hopeless.ensures ∙ w.if-is_hopeless.true)) | else-is_hopeless w ↦ rw w.hopeless-is (mark_not component test l.r l.hopeless (omega arith) (λ j p. c.requires.n_in_bounds.1 j (omega arith)) l.invariant.2 (sym c.is_hopeless.ensures ∙ w.if-is_hopeless.false)) ],
+      elim c.if-is_hopeless.branch [ then-is_hopeless w ↦ w.some-is ∙ sym (more ∙ or_right (any_hopeless l.r c.args.fixed.now c.args.gates.now c.args.limit) (sym c.is_hopeless.ensures ∙ w.if-is_hopeless.true)) | else-is_hopeless w ↦ w.some-is ∙ (l.invariant.3 ∙ sym (more ∙ or-none (any_hopeless l.r c.args.fixed.now c.args.gates.now c.args.limit) (sym c.is_hopeless.ensures ∙ w.if-is_hopeless.false))) ],
     )
   where
     or-none : (a : Bool) {b : Bool} → b ≡ false → (a || b) ≡ a

@@ -10,7 +10,7 @@ use Rattle.clusters.specs.Weights.{product_small}
 use Rattle.clusters.proofs.weights.upper_weight.Goals as goal
 
 pub length_of-requires : goal.length_of-requires
-length_of-requires c = checked c.requires.wired.0 c.args.i ((let h : 0 < c.args.i = c.requires.i_nonzero.0 c.if-lo-i-gt0.true in h)) c.requires.wired.1
+length_of-requires c = checked c.requires.wired.0 c.args.i ((let it : 0 < c.args.i = c.requires.i_nonzero.0 c.if-lo-i-gt0.true in it)) c.requires.wired.1
 
 pub overflow_sub-above : goal.overflow_sub-above
 overflow_sub-above c =
@@ -18,7 +18,7 @@ overflow_sub-above c =
     omega (arith, c.length_of.ensures.0)
 
 pub wire_factor-requires : goal.wire_factor-requires
-wire_factor-requires c = ((let h : 0 < c.args.i = c.requires.i_nonzero.0 c.if-lo-i-gt0.true in h), c.requires.wired.0.stored c.args.i c.requires.wired.1)
+wire_factor-requires c = ((let it : 0 < c.args.i = c.requires.i_nonzero.0 c.if-lo-i-gt0.true in it), c.requires.wired.0.stored c.args.i c.requires.wired.1)
 
 pub overflow_mul-result : goal.overflow_mul-result
 overflow_mul-result c =

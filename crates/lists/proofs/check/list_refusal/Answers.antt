@@ -12,6 +12,8 @@ use Rattle.pieces.specs.JumperList.{entry_count, entry_refusal}
 use Rattle.lists.specs.EntriesChecked.{present_length, wire_before, position_from, wires-checked, length_wire_0, after_lower, after_not_from, entry_not_after, on_later, on_same, on_wire_checked, on_wire_refusal, wire-next, position-next, list_not_threes, list_entries, entry-none}
 use borrow.Author.Rules.{rules}
 use Rattle.lists.proofs.check.list_refusal.Goals as goal
+use Rattle.lists.proofs.check.list_refusal.Goals.{then-i-wire+else-i-wire-2, else-i-wire+else-t-from}
+use Rattle.lists.specs.EntriesChecked.{OnWire}
 
 pub returns-then-list-ne0 : goal.returns-then-list-ne0
 returns-then-list-ne0 c = c.refused.ensures ∙ list_not_threes _ _ c.if-list-ne0.true
@@ -42,10 +44,11 @@ position_refusal-r-requires c =
     let i = c.loop-e.invariant in
     let on = c.entry_wire-i.ensures in
     let at = c.entry_position-t.ensures in
-    let on-wire =
-    ⊎_elim (λ w. on_later _ _ _ _ _ on i.3 w.0.taken w.1.left w.3 (w.4 ∙ w.2.ensures))
-    (λ w. on_same _ _ _ _ _ on at i.3 i.4 w.0.left w.1.left w.2 (w.3 ∙ i.5))
-    c.if-i-wire.branch
+    let on-wire : OnWire c.args.nodes.now c.args.wires.now c.args.stage c.args.list.now c.loop-e.e c.if-i-wire.wire c.if-i-wire.length =
+    elim c.if-i-wire.branch [
+      then-i-wire+else-i-wire-2 w ↦ on_later _ _ _ _ _ on i.3 w.if-i-wire.true w.if-i-wire-2.false w.wire-is (w.length-is ∙ w.present_length-length.ensures)
+      | else-i-wire+else-t-from w ↦ on_same _ _ _ _ _ on at i.3 i.4 w.if-i-wire.false w.if-t-from.false w.wire-is (w.length-is ∙ i.5)
+    ]
     in
     on_wire_checked _ _ _ _ _ (wires-checked _ _ _ _ c.requires) on-wire on
 
@@ -54,10 +57,11 @@ returns-then-r-ne0 c =
     let i = c.loop-e.invariant in
     let on = c.entry_wire-i.ensures in
     let at = c.entry_position-t.ensures in
-    let on-wire =
-    ⊎_elim (λ w. on_later _ _ _ _ _ on i.3 w.0.taken w.1.left w.3 (w.4 ∙ w.2.ensures))
-    (λ w. on_same _ _ _ _ _ on at i.3 i.4 w.0.left w.1.left w.2 (w.3 ∙ i.5))
-    c.if-i-wire.branch
+    let on-wire : OnWire c.args.nodes.now c.args.wires.now c.args.stage c.args.list.now c.loop-e.e c.if-i-wire.wire c.if-i-wire.length =
+    elim c.if-i-wire.branch [
+      then-i-wire+else-i-wire-2 w ↦ on_later _ _ _ _ _ on i.3 w.if-i-wire.true w.if-i-wire-2.false w.wire-is (w.length-is ∙ w.present_length-length.ensures)
+      | else-i-wire+else-t-from w ↦ on_same _ _ _ _ _ on at i.3 i.4 w.if-i-wire.false w.if-t-from.false w.wire-is (w.length-is ∙ i.5)
+    ]
     in
     let r = c.position_refusal-r in
     list_entries _ _ c.if-list-ne0.false
@@ -74,10 +78,11 @@ loop-e-preserved c =
     let i = c.loop-e.invariant in
     let on = c.entry_wire-i.ensures in
     let at = c.entry_position-t.ensures in
-    let on-wire =
-    ⊎_elim (λ w. on_later _ _ _ _ _ on i.3 w.0.taken w.1.left w.3 (w.4 ∙ w.2.ensures))
-    (λ w. on_same _ _ _ _ _ on at i.3 i.4 w.0.left w.1.left w.2 (w.3 ∙ i.5))
-    c.if-i-wire.branch
+    let on-wire : OnWire c.args.nodes.now c.args.wires.now c.args.stage c.args.list.now c.loop-e.e c.if-i-wire.wire c.if-i-wire.length =
+    elim c.if-i-wire.branch [
+      then-i-wire+else-i-wire-2 w ↦ on_later _ _ _ _ _ on i.3 w.if-i-wire.true w.if-i-wire-2.false w.wire-is (w.length-is ∙ w.present_length-length.ensures)
+      | else-i-wire+else-t-from w ↦ on_same _ _ _ _ _ on at i.3 i.4 w.if-i-wire.false w.if-t-from.false w.wire-is (w.length-is ∙ i.5)
+    ]
     in
     let r = c.position_refusal-r in
     let q = on_wire_refusal _ _ _ _ _ _ _ on-wire on at r.ensures in (
