@@ -9,28 +9,20 @@ use Rattle.clusters.specs.Turns.{is_present-positive}
 use Rattle.clusters.specs.EndsLaws.{checked, highest-present, highest-absent, highest-short}
 use Rattle.clusters.proofs.cuttable.highest_of.Goals as goal
 
-present-here : (c : goal.Then-is_present) → is_present c.args.wires.now c.args.stage c.args.i ≡ true
-present-here c = sym c.is_present.ensures ∙ c.if-is_present.true
-
-checked-here : (c : goal.Then-is_present) → Checked c.args.nodes.now c.args.wires.now c.args.i
-checked-here c =
-    let a = c.args in
-    checked c.requires.0 a.i (is_present-positive a.wires.now a.stage a.i (present-here c)) c.requires.1
-
 pub is_present-requires : goal.is_present-requires
 is_present-requires c = c.requires.0.stored c.args.i c.requires.1
 
 pub length_of-length-requires : goal.length_of-length-requires
-length_of-length-requires c = checked-here c
+length_of-length-requires c = (let h : Checked c.args.nodes.now c.args.wires.now c.args.i = let a = c.args in checked c.requires.0 a.i (is_present-positive a.wires.now a.stage a.i ((let h : is_present c.args.wires.now c.args.stage c.args.i ≡ true = sym c.is_present.ensures ∙ c.if-is_present.true in h))) c.requires.1 in h)
 
 pub highest_cuttable-requires : goal.highest_cuttable-requires
-highest_cuttable-requires c = (checked-here c, omega (arith, c.length_of-length.ensures.0))
+highest_cuttable-requires c = ((let h : Checked c.args.nodes.now c.args.wires.now c.args.i = let a = c.args in checked c.requires.0 a.i (is_present-positive a.wires.now a.stage a.i ((let h : is_present c.args.wires.now c.args.stage c.args.i ≡ true = sym c.is_present.ensures ∙ c.if-is_present.true in h))) c.requires.1 in h), omega (arith, c.length_of-length.ensures.0))
 
 pub returns-then-length-gt0 : goal.returns-then-length-gt0
 returns-then-length-gt0 c =
     let a = c.args in
     let e = c.length_of-length.ensures.0 in
-    highest-present a.nodes.now a.wires.now a.obstacles.now a.stage a.i c.requires.1 (present-here c) c.highest_cuttable.result (omega arith)
+    highest-present a.nodes.now a.wires.now a.obstacles.now a.stage a.i c.requires.1 ((let h : is_present c.args.wires.now c.args.stage c.args.i ≡ true = sym c.is_present.ensures ∙ c.if-is_present.true in h)) c.highest_cuttable.result (omega arith)
     (rw e at c.highest_cuttable.ensures)
 
 pub returns-else-length-gt0 : goal.returns-else-length-gt0

@@ -8,21 +8,18 @@ use Rattle.clusters.specs.Turns.{is_present-positive}
 use Rattle.clusters.specs.EndsLaws.{checked, lowest-present, lowest-absent}
 use Rattle.clusters.proofs.cuttable.lowest_of.Goals as goal
 
-present-here : (c : goal.Then-is_present) → is_present c.args.wires.now c.args.stage c.args.i ≡ true
-present-here c = sym c.is_present.ensures ∙ c.if-is_present.true
-
 pub is_present-requires : goal.is_present-requires
 is_present-requires c = c.requires.0.stored c.args.i c.requires.1
 
 pub lowest_cuttable-requires : goal.lowest_cuttable-requires
 lowest_cuttable-requires c =
     let a = c.args in
-    (checked c.requires.0 a.i (is_present-positive a.wires.now a.stage a.i (present-here c)) c.requires.1, omega arith)
+    (checked c.requires.0 a.i (is_present-positive a.wires.now a.stage a.i ((let h : is_present c.args.wires.now c.args.stage c.args.i ≡ true = sym c.is_present.ensures ∙ c.if-is_present.true in h))) c.requires.1, omega arith)
 
 pub returns-then-is_present : goal.returns-then-is_present
 returns-then-is_present c =
     let a = c.args in
-    lowest-present a.nodes.now a.wires.now a.obstacles.now a.stage a.i c.requires.1 (present-here c) c.lowest_cuttable.result c.lowest_cuttable.ensures
+    lowest-present a.nodes.now a.wires.now a.obstacles.now a.stage a.i c.requires.1 ((let h : is_present c.args.wires.now c.args.stage c.args.i ≡ true = sym c.is_present.ensures ∙ c.if-is_present.true in h)) c.lowest_cuttable.result c.lowest_cuttable.ensures
 
 pub returns : goal.returns
 returns c =

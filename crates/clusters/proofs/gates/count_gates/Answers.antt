@@ -8,10 +8,6 @@ use Rattle.clusters.specs.FirstPasses.{gathered, gate_of}
 use Rattle.clusters.specs.Turns.{gate-one, gathered-bound, gathered_none, cleared, gather-turn}
 use Rattle.clusters.proofs.gates.count_gates.Goals as goal
 
--- the root is no higher than the node
-root-low : (c : goal.In-loop-i) → get_or c.args.root.now c.loop-i.i 0 ≤ c.loop-i.i
-root-low c = c.requires.falling.0 c.loop-i.i (omega arith)
-
 pub loop-i-init : goal.loop-i-init
 loop-i-init c = (omega arith, omega arith, λ j p. absurd (native.Mathlib.Nat.lt_irrefl 0 (omega arith)))
 
@@ -22,19 +18,19 @@ gate_of-requires c =
     (omega arith, omega arith, omega arith)
 
 pub offset_bounds-gates-r : goal.offset_bounds-gates-r
-offset_bounds-gates-r c = let f = root-low c in search rules
+offset_bounds-gates-r c = let f = (let h : get_or c.args.root.now c.loop-i.i 0 ≤ c.loop-i.i = c.requires.falling.0 c.loop-i.i (omega arith) in h) in search rules
 
 pub bounds-gates-r : goal.bounds-gates-r
 bounds-gates-r c =
     let l = c.loop-i in
-    let f = root-low c in
+    let f = (let h : get_or c.args.root.now c.loop-i.i 0 ≤ c.loop-i.i = c.requires.falling.0 c.loop-i.i (omega arith) in h) in
     rw (length-set l.gates l.i 0) (omega arith)
 
 pub overflow_add-gates : goal.overflow_add-gates
 overflow_add-gates c =
     let l = c.loop-i in
     let a = c.args in
-    let f = root-low c in
+    let f = (let h : get_or c.args.root.now c.loop-i.i 0 ≤ c.loop-i.i = c.requires.falling.0 c.loop-i.i (omega arith) in h) in
     let x = gate_of a.nodes.now a.component.now a.sourced.now in
     let k = get_or a.root.now l.i 0 in
     let z = gathered_none l.i l.i a.root.now x (λ j p. c.requires.falling.0 j (omega arith)) (omega arith) in
@@ -47,7 +43,7 @@ overflow_add-gates c =
 pub bounds-gates-r-in-loop-i : goal.bounds-gates-r-in-loop-i
 bounds-gates-r-in-loop-i c =
     let l = c.loop-i in
-    let f = root-low c in
+    let f = (let h : get_or c.args.root.now c.loop-i.i 0 ≤ c.loop-i.i = c.requires.falling.0 c.loop-i.i (omega arith) in h) in
     rw (length-set l.gates l.i 0) (omega arith)
 
 pub loop-i-preserved : goal.loop-i-preserved

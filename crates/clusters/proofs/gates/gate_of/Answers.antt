@@ -4,15 +4,11 @@ use borrow.Author.Rules.{rules}
 use Rattle.net.specs.Net.{node_flags, is_gate}
 use Rattle.clusters.proofs.gates.gate_of.Goals as goal
 
--- the flag that was tested
-tested : (c : goal.After-is_gate) → c.is_gate.result ≡ is_gate (node_flags c.args.nodes.now c.args.i)
-tested c = c.is_gate.ensures ∙ ap is_gate c.node_flags.ensures
-
 pub returns-then-not-sourced-component : goal.returns-then-not-sourced-component
-returns-then-not-sourced-component c = rw (sym (tested c) ∙ c.if-is_gate.true, c.if-not-sourced-component.true)
+returns-then-not-sourced-component c = rw (sym ((let h : c.is_gate.result ≡ is_gate (node_flags c.args.nodes.now c.args.i) = c.is_gate.ensures ∙ ap is_gate c.node_flags.ensures in h)) ∙ c.if-is_gate.true, c.if-not-sourced-component.true)
 
 pub returns-else-not-sourced-component : goal.returns-else-not-sourced-component
-returns-else-not-sourced-component c = rw (sym (tested c) ∙ c.if-is_gate.true, c.if-not-sourced-component.false)
+returns-else-not-sourced-component c = rw (sym ((let h : c.is_gate.result ≡ is_gate (node_flags c.args.nodes.now c.args.i) = c.is_gate.ensures ∙ ap is_gate c.node_flags.ensures in h)) ∙ c.if-is_gate.true, c.if-not-sourced-component.false)
 
 pub returns-else-is_gate : goal.returns-else-is_gate
-returns-else-is_gate c = rw (sym (tested c) ∙ c.if-is_gate.false)
+returns-else-is_gate c = rw (sym ((let h : c.is_gate.result ≡ is_gate (node_flags c.args.nodes.now c.args.i) = c.is_gate.ensures ∙ ap is_gate c.node_flags.ensures in h)) ∙ c.if-is_gate.false)

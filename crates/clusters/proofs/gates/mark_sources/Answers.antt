@@ -11,10 +11,6 @@ use Rattle.clusters.specs.FirstPasses.{source_in}
 use Rattle.clusters.specs.Turns.{mark_here, mark_not}
 use Rattle.clusters.proofs.gates.mark_sources.Goals as goal
 
--- the flag that was tested
-tested : (c : goal.After-is_source) → c.is_source.result ≡ is_source (node_flags c.args.nodes.now c.loop-i.i)
-tested c = c.is_source.ensures ∙ ap is_source c.node_flags.ensures
-
 pub loop-i-init : goal.loop-i-init
 loop-i-init c = (omega arith, omega arith, λ j p. absurd (native.Mathlib.Nat.lt_irrefl 0 (omega arith)))
 
@@ -36,10 +32,10 @@ loop-i-preserved c =
       ⊎_elim
           (λ w.
           rw w.2
-          (mark_here a.component.now (λ j. is_source (node_flags a.nodes.now j)) l.i l.sourced (omega arith) (λ j p. c.requires.falling j (omega arith)) l.invariant.2 (sym (tested c) ∙ w.0.taken)))
+          (mark_here a.component.now (λ j. is_source (node_flags a.nodes.now j)) l.i l.sourced (omega arith) (λ j p. c.requires.falling j (omega arith)) l.invariant.2 (sym ((let h : c.is_source.result ≡ is_source (node_flags c.args.nodes.now c.loop-i.i) = c.is_source.ensures ∙ ap is_source c.node_flags.ensures in h)) ∙ w.0.taken)))
           (λ w.
           rw w.1
-          (mark_not a.component.now (λ j. is_source (node_flags a.nodes.now j)) l.i l.sourced (omega arith) (λ j p. c.requires.falling j (omega arith)) l.invariant.2 (sym (tested c) ∙ w.0.left)))
+          (mark_not a.component.now (λ j. is_source (node_flags a.nodes.now j)) l.i l.sourced (omega arith) (λ j p. c.requires.falling j (omega arith)) l.invariant.2 (sym ((let h : c.is_source.result ≡ is_source (node_flags c.args.nodes.now c.loop-i.i) = c.is_source.ensures ∙ ap is_source c.node_flags.ensures in h)) ∙ w.0.left)))
           c.if-is_source.branch,
     )
 

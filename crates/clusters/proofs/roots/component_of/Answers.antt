@@ -9,30 +9,17 @@ use Rattle.clusters.specs.FirstPasses.{is_present}
 use Rattle.clusters.specs.Turns.{is_present-positive}
 use Rattle.clusters.proofs.roots.component_of.Goals as goal
 
-present-here : (c : goal.Then-is_present) → is_present c.args.wires.now c.args.stage c.args.i ≡ true
-present-here c = sym c.is_present.ensures ∙ c.if-is_present.true
-
-positive : (c : goal.Then-is_present) → 0 < c.args.i
-positive c =
-    let a = c.args in is_present-positive a.wires.now a.stage a.i (present-here c)
-
-inside : (c : goal.After-wire_parent) → c.wire_parent.result < c.args.i
-inside c =
-    let e = c.wire_parent.ensures in
-    let l = c.requires.i_bound (positive c) in
-    omega arith
-
 pub wire_parent-requires : goal.wire_parent-requires
-wire_parent-requires c = let p = positive c in search rules
+wire_parent-requires c = let p = (let h : 0 < c.args.i = let a = c.args in is_present-positive a.wires.now a.stage a.i ((let h : is_present c.args.wires.now c.args.stage c.args.i ≡ true = sym c.is_present.ensures ∙ c.if-is_present.true in h)) in h) in search rules
 
 pub offset_bounds-component-wire_parent : goal.offset_bounds-component-wire_parent
-offset_bounds-component-wire_parent c = let l = inside c in search rules
+offset_bounds-component-wire_parent c = let l = (let h : c.wire_parent.result < c.args.i = let e = c.wire_parent.ensures in let l = c.requires.i_bound ((let h : 0 < c.args.i = let a = c.args in is_present-positive a.wires.now a.stage a.i ((let h : is_present c.args.wires.now c.args.stage c.args.i ≡ true = sym c.is_present.ensures ∙ c.if-is_present.true in h)) in h)) in omega arith in h) in search rules
 
 pub bounds-component-wire_parent : goal.bounds-component-wire_parent
-bounds-component-wire_parent c = let l = inside c in search rules
+bounds-component-wire_parent c = let l = (let h : c.wire_parent.result < c.args.i = let e = c.wire_parent.ensures in let l = c.requires.i_bound ((let h : 0 < c.args.i = let a = c.args in is_present-positive a.wires.now a.stage a.i ((let h : is_present c.args.wires.now c.args.stage c.args.i ≡ true = sym c.is_present.ensures ∙ c.if-is_present.true in h)) in h)) in omega arith in h) in search rules
 
 pub returns-then-is_present : goal.returns-then-is_present
-returns-then-is_present c = rw (present-here c, c.wire_parent.ensures)
+returns-then-is_present c = rw ((let h : is_present c.args.wires.now c.args.stage c.args.i ≡ true = sym c.is_present.ensures ∙ c.if-is_present.true in h), c.wire_parent.ensures)
 
 pub returns : goal.returns
 returns c = rw (sym c.is_present.ensures ∙ c.if-is_present.false)

@@ -6,23 +6,14 @@ use borrow.Author.Rules.{rules}
 use borrow.Author.Tests.{lt-ltb, le-ltb}
 use Rattle.clusters.proofs.roots.host_of.Goals as goal
 
-positive : (c : goal.Then-lo-i-gt0) → 0 < c.args.i
-positive c = c.requires.i_bound.1 c.if-lo-i-gt0.true
-
-inside : (c : goal.After-wire_parent) → c.wire_parent.result < c.args.i
-inside c =
-    let e = c.wire_parent.ensures in
-    let l = c.requires.i_bound.0 (positive c) in
-    omega arith
-
 pub wire_parent-requires : goal.wire_parent-requires
-wire_parent-requires c = let p = positive c in search rules
+wire_parent-requires c = let p = (let h : 0 < c.args.i = c.requires.i_bound.1 c.if-lo-i-gt0.true in h) in search rules
 
 pub offset_bounds-root-wire_parent : goal.offset_bounds-root-wire_parent
-offset_bounds-root-wire_parent c = let l = inside c in search rules
+offset_bounds-root-wire_parent c = let l = (let h : c.wire_parent.result < c.args.i = let e = c.wire_parent.ensures in let l = c.requires.i_bound.0 ((let h : 0 < c.args.i = c.requires.i_bound.1 c.if-lo-i-gt0.true in h)) in omega arith in h) in search rules
 
 pub bounds-root-wire_parent : goal.bounds-root-wire_parent
-bounds-root-wire_parent c = let l = inside c in search rules
+bounds-root-wire_parent c = let l = (let h : c.wire_parent.result < c.args.i = let e = c.wire_parent.ensures in let l = c.requires.i_bound.0 ((let h : 0 < c.args.i = c.requires.i_bound.1 c.if-lo-i-gt0.true in h)) in omega arith in h) in search rules
 
 pub returns-then-lo-i-gt0 : goal.returns-then-lo-i-gt0
 returns-then-lo-i-gt0 c =

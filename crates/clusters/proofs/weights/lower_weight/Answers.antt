@@ -15,42 +15,28 @@ use Rattle.clusters.specs.EndsLaws.{checked}
 use Rattle.clusters.specs.Weights.{product_small, length-≤}
 use Rattle.clusters.proofs.weights.lower_weight.Goals as goal
 
-abbrev start : goal.Then-is_present → goal.Start
-start c = c
-
-present-here : (c : goal.Then-is_present) → is_present (start c).args.wires.now (start c).args.stage (start c).args.i ≡ true
-present-here c = sym c.is_present.ensures ∙ c.if-is_present.true
-
-positive : (c : goal.Then-is_present) → 0 < (start c).args.i
-positive c = let a = (start c).args in is_present-positive a.wires.now a.stage a.i (present-here c)
-
-length-here : (c : goal.Then-is_present) → wire_length (start c).args.nodes.now (start c).args.wires.now (start c).args.i ≤ length_bound
-length-here c =
-    let s = start c in
-    length-≤ s.requires.wired.0 (λ j. omega (arith, c.type_inv.nodes j)) s.args.i (positive c) s.requires.wired.1
-
 pub is_present-requires : goal.is_present-requires
 is_present-requires c = c.requires.wired.0.stored c.args.i c.requires.wired.1
 
 pub wire_factor-factor-requires : goal.wire_factor-factor-requires
-wire_factor-factor-requires c = let s = start c in (positive c, s.requires.wired.0.stored s.args.i s.requires.wired.1)
+wire_factor-factor-requires c = ((let h : 0 < c.args.i = let a = c.args in is_present-positive a.wires.now a.stage a.i ((let h : is_present c.args.wires.now c.args.stage c.args.i ≡ true = sym c.is_present.ensures ∙ c.if-is_present.true in h)) in h), c.requires.wired.0.stored c.args.i c.requires.wired.1)
 
 pub overflow_mul-result : goal.overflow_mul-result
 overflow_mul-result c =
-    let a = (start c).args in
-    let low = (start c).requires.i_bound c.if-lo-i-gt0.true in
-    let length = length-here c in
+    let a = c.args in
+    let low = c.requires.i_bound c.if-lo-i-gt0.true in
+    let length = (let h : wire_length c.args.nodes.now c.args.wires.now c.args.i ≤ length_bound = length-≤ c.requires.wired.0 (λ j. omega (arith, c.type_inv.nodes j)) c.args.i ((let h : 0 < c.args.i = let a = c.args in is_present-positive a.wires.now a.stage a.i ((let h : is_present c.args.wires.now c.args.stage c.args.i ≡ true = sym c.is_present.ensures ∙ c.if-is_present.true in h)) in h)) c.requires.wired.1 in h) in
     let f = c.wire_factor-factor.type_inv in
     let q = product_small {a = get_or a.lo.now a.i 0} {b = c.wire_factor-factor.result} (omega arith) (omega arith) in
     record { fits = omega arith }
 
 pub returns-then-lo-i-gt0 : goal.returns-then-lo-i-gt0
 returns-then-lo-i-gt0 c =
-    let a = (start c).args in
-    rw (present-here c, lt-ltb 0 (get_or a.lo.now a.i 0) c.if-lo-i-gt0.true, c.wire_factor-factor.ensures)
+    let a = c.args in
+    rw ((let h : is_present c.args.wires.now c.args.stage c.args.i ≡ true = sym c.is_present.ensures ∙ c.if-is_present.true in h), lt-ltb 0 (get_or a.lo.now a.i 0) c.if-lo-i-gt0.true, c.wire_factor-factor.ensures)
 
 pub length_of-requires : goal.length_of-requires
-length_of-requires c = let s = start c in checked s.requires.wired.0 s.args.i (positive c) s.requires.wired.1
+length_of-requires c = checked c.requires.wired.0 c.args.i ((let h : 0 < c.args.i = let a = c.args in is_present-positive a.wires.now a.stage a.i ((let h : is_present c.args.wires.now c.args.stage c.args.i ≡ true = sym c.is_present.ensures ∙ c.if-is_present.true in h)) in h)) c.requires.wired.1
 
 pub overflow_mul-result-then-is_present : goal.overflow_mul-result-then-is_present
 overflow_mul-result-then-is_present c =
@@ -61,8 +47,8 @@ overflow_mul-result-then-is_present c =
 
 pub returns-then-is_present : goal.returns-then-is_present
 returns-then-is_present c =
-    let a = (start c).args in
-    rw (present-here c, le-ltb 0 (get_or a.lo.now a.i 0) c.if-lo-i-gt0.false, c.wire_factor-factor.ensures, c.length_of.ensures.0)
+    let a = c.args in
+    rw ((let h : is_present c.args.wires.now c.args.stage c.args.i ≡ true = sym c.is_present.ensures ∙ c.if-is_present.true in h), le-ltb 0 (get_or a.lo.now a.i 0) c.if-lo-i-gt0.false, c.wire_factor-factor.ensures, c.length_of.ensures.0)
 
 pub returns : goal.returns
 returns c = rw (sym c.is_present.ensures ∙ c.if-is_present.false)

@@ -9,26 +9,20 @@ use Rattle.clusters.specs.EndsLaws.{checked}
 use Rattle.clusters.specs.Weights.{product_small}
 use Rattle.clusters.proofs.weights.upper_weight.Goals as goal
 
-abbrev start : goal.Then-lo-i-gt0 → goal.Start
-start c = c
-
-positive : (c : goal.Then-lo-i-gt0) → 0 < (start c).args.i
-positive c = (start c).requires.i_nonzero.0 c.if-lo-i-gt0.true
-
 pub length_of-requires : goal.length_of-requires
-length_of-requires c = let s = start c in checked s.requires.wired.0 s.args.i (positive c) s.requires.wired.1
+length_of-requires c = checked c.requires.wired.0 c.args.i ((let h : 0 < c.args.i = c.requires.i_nonzero.0 c.if-lo-i-gt0.true in h)) c.requires.wired.1
 
 pub overflow_sub-above : goal.overflow_sub-above
 overflow_sub-above c =
-    let h = (start c).requires.i_nonzero.1 c.if-lo-i-gt0.true in
+    let h = c.requires.i_nonzero.1 c.if-lo-i-gt0.true in
     omega (arith, c.length_of.ensures.0)
 
 pub wire_factor-requires : goal.wire_factor-requires
-wire_factor-requires c = let s = start c in (positive c, s.requires.wired.0.stored s.args.i s.requires.wired.1)
+wire_factor-requires c = ((let h : 0 < c.args.i = c.requires.i_nonzero.0 c.if-lo-i-gt0.true in h), c.requires.wired.0.stored c.args.i c.requires.wired.1)
 
 pub overflow_mul-result : goal.overflow_mul-result
 overflow_mul-result c =
-    let a = (start c).args in
+    let a = c.args in
     let e = c.length_of.ensures.1 in
     let f = c.wire_factor.type_inv in
     let q = product_small {a = c.length_of.result - get_or a.hi.now a.i 0} {b = c.wire_factor.result} (omega arith) (omega arith) in
@@ -36,7 +30,7 @@ overflow_mul-result c =
 
 pub returns-then-lo-i-gt0 : goal.returns-then-lo-i-gt0
 returns-then-lo-i-gt0 c =
-    let a = (start c).args in
+    let a = c.args in
     rw (lt-ltb 0 (get_or a.lo.now a.i 0) c.if-lo-i-gt0.true, c.wire_factor.ensures, c.length_of.ensures.0)
 
 pub returns : goal.returns
