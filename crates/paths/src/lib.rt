@@ -11,7 +11,7 @@ use words::{
 };
 
 // A point of a path: the byte of its `(`, the path's layer, whether it is the path's first, and its coordinates.
-#[derive(Drop)]
+#[derive(Clone, Copy)]
 pub struct Point {
     pub at: usize,
     pub layer: u8,

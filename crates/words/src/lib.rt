@@ -5,7 +5,7 @@ ghost use Rattle.std.specs.Prelude.{◌≡◌, cond, [], ◌∷◌, ◌≤◌, l
 ghost use Rattle.words.specs.Words.{blank, word_start, word_end, word_from, spelling, same, is_number, number_of, layer_digits, layer_of};
 
 // A word: its first byte and the place after it. Where no word is left, both are the text's length.
-#[derive(Drop)]
+#[derive(Clone, Copy)]
 pub struct Word {
     pub at: usize,
     pub next: usize,

@@ -5,7 +5,6 @@ use mathlib.Core.Bool.{and-true}
 use mathlib.Core.List.{[], ◌∷◌}
 use mathlib.Core.Path.{sym}
 use native.Mathlib.Omega.{arith}
-use borrow.Author.Rules.{rules}
 use Rattle.words.specs.Words.{same, spelling}
 use Rattle.words.specs.WordsLaws.{other_length}
 use Rattle.words.specs.Reading.{part-cons, part_none}

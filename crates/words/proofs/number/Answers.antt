@@ -1,9 +1,8 @@
 -- `words::number` meets its contract.
 -- Assumes nothing.
-use Prim.Native.Nat.{◌-◌, ◌<◌}
+use Prim.Native.Nat.{◌<◌}
 use native.Mathlib.Omega.{arith}
-use borrow.Author.Rules.{rules}
-use Rattle.words.specs.Reading.{ReadUpTo, number-empty, number-long, number-low, number-high, number_large, number-right, read_none, read_more, value-fits}
+use Rattle.words.specs.Reading.{number-empty, number-long, number-low, number-high, number_large, number-right, read_none, read_more, value-fits}
 use Rattle.words.proofs.number.Goals as goal
 
 small : (c : goal.Else-b-gt57) → c.loop-i.value < 10000

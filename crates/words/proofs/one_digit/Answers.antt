@@ -1,7 +1,6 @@
 -- `words::one_digit` meets its contract.
 -- Assumes nothing.
 use native.Mathlib.Omega.{arith}
-use borrow.Author.Rules.{rules}
 use borrow.Author.Tests.{le-ltb, lt-ltb}
 use Rattle.words.specs.Words.{layer_digits}
 use Rattle.words.proofs.one_digit.Goals as goal

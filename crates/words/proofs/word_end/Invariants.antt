@@ -1,13 +1,9 @@
 -- `words::word_end` meets its contract.
 -- Assumes nothing.
 use Prim.Native.Nat.{◌≤◌, ◌-◌}
-use mathlib.Core.Bool.{not}
-use mathlib.Core.Path.{◌≡◌, ◌∙◌, refl, sym, ap}
-use native.Mathlib.Omega.{arith}
-use borrow.Author.Rules.{rules}
+use mathlib.Core.Path.{◌≡◌}
 use lib.ListN.{length}
-use Rattle.words.specs.Words.{blank, word_end}
-use Rattle.words.specs.WordsLaws.{leading-more, leading-stop, leading_end}
+use Rattle.words.specs.Words.{word_end}
 use Rattle.words.proofs.word_end.Given as goal
 
 abbrev pub invariant-loop-at : goal.invariant-loop-at

@@ -1,7 +1,6 @@
 -- `words::word_from` meets its contract.
 -- Assumes nothing.
 use native.Mathlib.Omega.{arith}
-use borrow.Author.Rules.{rules}
 use Rattle.words.proofs.word_from.Goals as goal
 
 pub returns : goal.returns

@@ -1,13 +1,9 @@
 -- `words::word_start` meets its contract.
 -- Assumes nothing.
 use Prim.Native.Nat.{◌≤◌, ◌-◌}
-use mathlib.Core.Path.{◌≡◌, ◌∙◌, refl, sym}
-use native.Mathlib.Omega.{arith}
-use borrow.Author.Rules.{rules}
-use borrow.Author.Tests.{not-true, not-false}
+use mathlib.Core.Path.{◌≡◌}
 use lib.ListN.{length}
-use Rattle.words.specs.Words.{blank, word_start}
-use Rattle.words.specs.WordsLaws.{leading-more, leading-stop, leading_end}
+use Rattle.words.specs.Words.{word_start}
 use Rattle.words.proofs.word_start.Given as goal
 
 abbrev pub invariant-loop-at : goal.invariant-loop-at

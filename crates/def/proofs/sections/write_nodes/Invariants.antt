@@ -1,0 +1,14 @@
+-- `def::sections::write_nodes` meets its contract: the nodes below `i` are written.
+-- Assumes nothing.
+use Prim.Native.Nat.{◌-◌, ◌≤◌}
+use mathlib.Core.Path.{◌≡◌}
+use lib.ListN.{length}
+use Rattle.laws.specs.Lists.{over}
+use Rattle.def.specs.Written.{table_nodes}
+use Rattle.def.proofs.sections.write_nodes.Given as goal
+
+abbrev pub invariant-loop-i : goal.invariant-loop-i
+invariant-loop-i l = (l.i ≤ l.count) × (length l.out ≡ length l.initial.out) × (l.out ≡ over (table_nodes l.nodes l.flags l.i) l.initial.out)
+
+abbrev pub decreases-loop-i : goal.decreases-loop-i
+decreases-loop-i l = l.count - l.i
