@@ -9,7 +9,7 @@ use points::highest_cuttable;
 
 // What climbing a branch's wire finds: the fewest points below and on it; the least weight that it then adds to its host; the least without a gate, if that can be had, else 0;
 // the position of its own jumper, or 0 for none.
-#[derive(Drop)]
+#[derive(Clone, Copy)]
 pub struct Climbing {
     pub count: u64,
     pub lightest: u64,

@@ -6,14 +6,14 @@ ghost use Rattle.counting.specs.Lengths.{Hanging, BranchArrays};
 ghost use Rattle.counting.specs.Close.{hung, HungAbove, NoneCut, branch_sum, flagged_sum, clear_count, heavier_than, Heaviest, Cutting, Room, only_any, only_ungated, Compared, Closes};
 
 // How many branches an option cuts, and the weight that it leaves.
-#[derive(Drop)]
+#[derive(Clone, Copy)]
 struct Choice {
     cuts: u64,
     weight: u64,
 }
 
 // A branch and its weight; no branch if the weight is 0.
-#[derive(Drop)]
+#[derive(Clone, Copy)]
 struct Found {
     at: usize,
     weight: u64,
@@ -28,7 +28,7 @@ fn hangs(lo: &[u64], host: &[usize], r: usize, j: usize) -> bool
 }
 
 // What the branches of a cluster add up to: the points below them; the least weight that they add; the weight of those that can come without a gate, and how many the others are.
-#[derive(Drop)]
+#[derive(Clone, Copy)]
 struct Branches {
     count: u64,
     lightest: u64,
@@ -163,7 +163,7 @@ fn cut_heaviest(
 }
 
 // A cluster to be closed: its lowest node, the weight that no cut takes away, and the number of its gates.
-#[derive(Drop)]
+#[derive(Clone, Copy)]
 pub struct Cluster {
     pub lowest: usize,
     pub fixed: u64,
@@ -172,7 +172,7 @@ pub struct Cluster {
 
 // What closing a cluster finds: the fewest points below it; which options reach that number, and the weight that each leaves.
 // Where the any-option does not, any_weight is the weight that the other leaves; where the ungated one does not, ungated_weight is 0.
-#[derive(Drop)]
+#[derive(Clone, Copy)]
 pub struct Closing {
     pub fewest: u64,
     pub any_ok: bool,

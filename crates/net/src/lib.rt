@@ -12,7 +12,7 @@ pub mod write;
 
 // What a call answers: number 0 is done; another is the refusal of document 01 with its place, and then count is 0.
 #[repr(C)]
-#[derive(Drop)]
+#[derive(Clone, Copy)]
 pub struct Answer {
     pub number: u32,
     pub place: u64,
@@ -20,7 +20,7 @@ pub struct Answer {
 }
 
 // The first refusal met: its number and place, or number 0 where none is.
-#[derive(Drop)]
+#[derive(Clone, Copy)]
 pub struct Refusal {
     pub number: u32,
     pub place: u64,

@@ -21,7 +21,7 @@ pub struct Point {
 }
 
 // What stands at a place: a word that leaves the form, the end with the place after `;`, or a whole point with the place after its `)`.
-#[derive(Drop)]
+#[derive(Clone, Copy)]
 pub enum Read {
     Wrong(usize),
     End(usize),

@@ -8,7 +8,7 @@ pub mod table;
 
 // What reading a route hands out: 17, 18 or 0 and its place, or the place after `;`; the number of points; the number of nodes, 257 for more than 256; the first nodes, each
 // in one number: x, y (16 bits each), layer, parent, layer of its wire (8 each).
-#[derive(Drop)]
+#[derive(Clone, Copy)]
 pub struct Route {
     pub number: u32,
     pub place: usize,
@@ -18,7 +18,7 @@ pub struct Route {
 }
 
 // What a point does to the nodes found so far: whether it is refused, whether it is a node already, its node's number, and what a new node hangs on and by.
-#[derive(Drop)]
+#[derive(Clone, Copy)]
 pub struct Placed {
     pub refused: bool,
     pub known: bool,
@@ -28,7 +28,7 @@ pub struct Placed {
 }
 
 // What taking a point leads to: 18, or the counts that follow.
-#[derive(Drop)]
+#[derive(Clone, Copy)]
 pub struct Taken {
     pub refused: bool,
     pub count: usize,

@@ -6,7 +6,7 @@ ghost use Rattle.routes.specs.Table.{RouteRead};
 use crate::Route;
 use crate::reading::{read_again, read_route};
 
-#[derive(Drop)]
+#[derive(Clone, Copy)]
 pub struct Reader<'a> {
     pub text: &'a [u8],
     pub place: usize,
