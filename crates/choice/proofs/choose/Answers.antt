@@ -5,10 +5,10 @@ use Rattle.choice.proofs.choose.Goals as goal
 
 pub choose_options-requires : goal.choose_options-requires
 choose_options-requires c =
-    let p = c.requires in record {
-      choice_lengths = p.0;
-      n_in_bounds = (p.1.0.1, p.1.0.0);
-      choosable = p.1.1;
+    record {
+      choice_lengths = c.requires.choice_lengths;
+      n_in_bounds = (c.requires.n_in_bounds.1, c.requires.n_in_bounds.0);
+      choosable = c.requires.choosable;
     }
 
 pub returns : goal.returns

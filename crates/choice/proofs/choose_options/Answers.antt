@@ -87,12 +87,12 @@ pub loop-r-preserved : goal.loop-r-preserved
 loop-r-preserved c =
     let l = c.loop-r in
     let a = c.args in
-    let e = (let it : (c.if-low-gt0.here ≡ cut_here c.args.lo.now c.args.host.now c.args.cut_any.now c.args.has_ungated.now c.loop-r.any_mode c.loop-r.r) × (c.if-low-gt0.any ≡ any_here c.args.wires.now c.args.lo.now c.args.hi.now c.args.host.now c.args.any_ok.now c.args.any_weight.now c.args.near.now c.args.limit c.loop-r.any_mode c.if-low-gt0.here c.loop-r.r) = let a = c.args in let l = c.loop-r in ⊎_elim (λ w. ( cut_here-branch a.wires.now a.lo.now a.hi.now a.host.now a.cut-any.now a.any-ok.now a.any-weight.now a.has-ungated.now a.near.now a.limit l.any-mode l.r c.if-low-gt0.here w.0.taken (w.12 ∙ w.5.ensures), rw w.12 (any_here-branch a.wires.now a.lo.now a.hi.now a.host.now a.cut-any.now a.any-ok.now a.any-weight.now a.has-ungated.now a.near.now a.limit l.any-mode w.5.result c.if-low-gt0.any w.9.result l.r w.0.taken (w.13 ∙ w.11.ensures) w.9.ensures), )) (λ w. ( w.1 ∙ cut_here-root a.wires.now a.lo.now a.hi.now a.host.now a.cut-any.now a.any-ok.now a.any-weight.now a.has-ungated.now a.near.now a.limit l.any-mode l.r w.0.left, w.2 ∙ any_here-root a.wires.now a.lo.now a.hi.now a.host.now a.cut-any.now a.any-ok.now a.any-weight.now a.has-ungated.now a.near.now a.limit l.any-mode c.if-low-gt0.here l.r w.0.left, )) c.if-low-gt0.branch in it) in (
+    let e = (let it : (c.if-low-gt0.here ≡ cut_here c.args.lo.now c.args.host.now c.args.cut_any.now c.args.has_ungated.now c.loop-r.any_mode c.loop-r.r) × (c.if-low-gt0.any ≡ any_here c.args.wires.now c.args.lo.now c.args.hi.now c.args.host.now c.args.any_ok.now c.args.any_weight.now c.args.near.now c.args.limit c.loop-r.any_mode c.if-low-gt0.here c.loop-r.r) = let a = c.args in let l = c.loop-r in ⊎_elim (λ w. ( cut_here-branch a.wires.now a.lo.now a.hi.now a.host.now a.cut_any.now a.any_ok.now a.any_weight.now a.has_ungated.now a.near.now a.limit l.any_mode l.r c.if-low-gt0.here w.0.taken (w.12 ∙ w.5.ensures), rw w.12 (any_here-branch a.wires.now a.lo.now a.hi.now a.host.now a.cut_any.now a.any_ok.now a.any_weight.now a.has_ungated.now a.near.now a.limit l.any_mode w.5.result c.if-low-gt0.any w.9.result l.r w.0.taken (w.13 ∙ w.11.ensures) w.9.ensures), )) (λ w. ( w.1 ∙ cut_here-root a.wires.now a.lo.now a.hi.now a.host.now a.cut_any.now a.any_ok.now a.any_weight.now a.has_ungated.now a.near.now a.limit l.any_mode l.r w.0.left, w.2 ∙ any_here-root a.wires.now a.lo.now a.hi.now a.host.now a.cut_any.now a.any_ok.now a.any_weight.now a.has_ungated.now a.near.now a.limit l.any_mode c.if-low-gt0.here l.r w.0.left, )) c.if-low-gt0.branch in it) in (
       omega (arith, c.loop-r-test.true),
-      length-set l.any-mode l.r c.if-low-gt0.any ∙ l.invariant.1,
+      length-set l.any_mode l.r c.if-low-gt0.any ∙ l.invariant.1,
       length-set l.cut_high l.r c.if-low-gt0.here ∙ l.invariant.2,
-      chooses_more a.wires.now a.lo.now a.hi.now a.host.now a.cut-any.now a.any-ok.now a.any-weight.now a.has-ungated.now a.near.now a.limit
-          l.any-mode l.cut_high l.r c.if-low-gt0.here c.if-low-gt0.any (omega (arith, c.loop-r-test.true, c.requires.n_in_bounds.0, l.invariant.1)) (omega (arith, c.loop-r-test.true, c.requires.n_in_bounds.1, l.invariant.2))
+      chooses_more a.wires.now a.lo.now a.hi.now a.host.now a.cut_any.now a.any_ok.now a.any_weight.now a.has_ungated.now a.near.now a.limit
+          l.any_mode l.cut_high l.r c.if-low-gt0.here c.if-low-gt0.any (omega (arith, c.loop-r-test.true, c.requires.n_in_bounds.0, l.invariant.1)) (omega (arith, c.loop-r-test.true, c.requires.n_in_bounds.1, l.invariant.2))
           (λ j p. c.requires.choosable.below j (omega (arith, c.loop-r-test.true))) e.0 e.1 l.invariant.3,
     )
 

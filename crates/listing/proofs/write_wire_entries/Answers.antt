@@ -12,7 +12,7 @@ pub returns : goal.returns
 returns c =
     let a = c.args in
     let one = c.write_if-first.ensures in
-    let two = c.write_if-first.ensures in
+    let two = c.write_if.ensures in
     let p = length-entry_if (ltb 0 a.near) a.wire a.near in (
       omega arith,
       over_lent (entry_if (ltb 0 a.near) a.wire a.near) (entry_if a.cut_high a.wire a.hi) a.rest.now _ _ _ one.1 (omega arith) (omega arith) two.1,

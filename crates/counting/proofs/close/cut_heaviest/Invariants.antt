@@ -1,0 +1,13 @@
+-- `counting::close::cut_heaviest` meets its contract: the branches cut so far are the heaviest, and the weight left falls with each.
+-- Assumes nothing.
+use Prim.Native.Nat.{◌≤◌, ◌+◌}
+use native.Mathlib.Omega.{arith}
+use Rattle.counting.specs.Close.{branch_sum, Cutting}
+use Rattle.counting.specs.CloseCutting.{cutting_start, cutting_more, cutting_step, cutting_part}
+use Rattle.counting.proofs.close.cut_heaviest.Given as goal
+
+abbrev pub invariant-loop-left : goal.invariant-loop-left
+invariant-loop-left l = Cutting l.n l.lo l.host l.lightest l.initial.cutAny l.cut_any l.r l.fixed l.limit l.cuts l.left × (l.cuts + l.left ≤ l.fixed + branch_sum l.n l.lo l.host l.r l.lightest)
+
+abbrev pub decreases-loop-left : goal.decreases-loop-left
+decreases-loop-left l = l.left

@@ -1,0 +1,32 @@
+-- `counting::close::heaviest` meets its contract: what holds of the branches passed holds of one more.
+-- Assumes nothing.
+use Prim.Native.Nat.{◌≤◌, ◌-◌}
+use mathlib.Core.Path.{◌≡◌, sym, ◌∙◌}
+use mathlib.Core.Logic.{⊎_elim}
+use native.Mathlib.Omega.{arith}
+use Rattle.counting.specs.Close.{Heaviest}
+use Rattle.counting.specs.CloseSums.{heaviest_none, heaviest_yes, heaviest_no}
+use Rattle.counting.proofs.close.heaviest.Goals as goal
+
+pub loop-j-init : goal.loop-j-init
+loop-j-init c = (omega arith, heaviest_none _ _ _ _ _ _ c.requires.r_lt_n.1)
+
+pub loop-j-preserved : goal.loop-j-preserved
+loop-j-preserved c =
+    ⊎_elim
+    (λ w. (
+      omega arith,
+      rw (w.2, w.3)
+          (heaviest_yes _ _ _ _ _ _ _ _ c.loop-j.invariant.1 (sym c.heavier.ensures ∙ w.0.taken)),
+    ))
+    (λ w. (
+      omega arith,
+      rw (w.1, w.2)
+          (heaviest_no _ _ _ _ _ _ _ _ c.loop-j.invariant.1 (sym c.heavier.ensures ∙ w.0.left)),
+    ))
+    c.if-heavier.branch
+
+pub returns : goal.returns
+returns c =
+    let e : c.loop-j.j ≡ c.args.n = omega arith in
+    rw (← e) c.loop-j.invariant.1

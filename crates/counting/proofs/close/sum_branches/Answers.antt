@@ -1,0 +1,72 @@
+-- `counting::close::sum_branches` meets its contract: the sums so far are those of the branches passed.
+-- Assumes nothing.
+use Prim.Native.Nat.{◌≤◌, ◌-◌}
+use mathlib.Core.Path.{◌≡◌, sym, ◌∙◌}
+use mathlib.Core.Logic.{⊎_elim}
+use native.Mathlib.Omega.{arith}
+use Rattle.counting.specs.Close.{branch_sum, clear_count, flagged_sum}
+use Rattle.counting.specs.CloseSums.{branch-none, branch_yes, branch_no, branch-room, option_none, option_clear, option_flagged, option_no, option_room}
+use Rattle.counting.proofs.close.sum_branches.Goals as goal
+
+pub loop-j-init : goal.loop-j-init
+loop-j-init c =
+    let above = c.requires.r_lt_n.1 in
+    let z = option_none c.args.lo.now c.args.host.now c.args.ungated.now c.args.has_ungated.now c.args.r above in (
+      omega arith,
+      omega arith,
+      sym (branch-none c.args.lo.now c.args.host.now c.args.count.now c.args.r above),
+      sym (branch-none c.args.lo.now c.args.host.now c.args.lightest.now c.args.r above),
+      sym z.1,
+      sym z.0,
+    )
+
+pub overflow_add-below : goal.overflow_add-below
+overflow_add-below c =
+    let l = c.loop-j in
+    let h = sym c.hangs.ensures ∙ c.if-hangs.true in
+    omega (arith, branch-room c.args.lo.now c.args.host.now c.args.count.now c.args.r l.j c.args.n (omega arith) h)
+
+pub overflow_add-light : goal.overflow_add-light
+overflow_add-light c =
+    let l = c.loop-j in
+    let h = sym c.hangs.ensures ∙ c.if-hangs.true in
+    omega (arith, branch-room c.args.lo.now c.args.host.now c.args.lightest.now c.args.r l.j c.args.n (omega arith) h)
+
+pub overflow_add-free : goal.overflow_add-free
+overflow_add-free c =
+    let l = c.loop-j in
+    let h = sym c.hangs.ensures ∙ c.if-hangs.true in
+    omega (arith, option_room c.args.lo.now c.args.host.now c.args.ungated.now c.args.has_ungated.now c.args.r l.j c.args.n (omega arith) h c.if-has_ungated-j.true)
+
+pub loop-j-preserved : goal.loop-j-preserved
+loop-j-preserved c =
+    let l = c.loop-j in
+    ⊎_elim
+    (λ w.
+    let h = sym c.hangs.ensures ∙ w.0.taken in
+    let a = branch_yes c.args.lo.now c.args.host.now c.args.count.now c.args.r l.j h in
+    let b = branch_yes c.args.lo.now c.args.host.now c.args.lightest.now c.args.r l.j h in
+    let z = option_flagged c.args.lo.now c.args.host.now c.args.ungated.now c.args.has_ungated.now c.args.r l.j h w.4.taken in
+    (omega arith, omega (arith, w.9), omega (arith, w.6), omega (arith, w.7), omega (arith, w.8, z.1), omega (arith, w.9, z.0)))
+    (λ v.
+    ⊎_elim
+    (λ w.
+    let h = sym c.hangs.ensures ∙ w.0.taken in
+    let a = branch_yes c.args.lo.now c.args.host.now c.args.count.now c.args.r l.j h in
+    let b = branch_yes c.args.lo.now c.args.host.now c.args.lightest.now c.args.r l.j h in
+    let z = option_clear c.args.lo.now c.args.host.now c.args.ungated.now c.args.has_ungated.now c.args.r l.j h w.4.left in
+    (omega arith, omega (arith, w.8), omega (arith, w.5), omega (arith, w.6), omega (arith, w.7, z.1), omega (arith, w.8, z.0)))
+    (λ w.
+    let h = sym c.hangs.ensures ∙ w.0.left in
+    let a = branch_no c.args.lo.now c.args.host.now c.args.count.now c.args.r l.j h in
+    let b = branch_no c.args.lo.now c.args.host.now c.args.lightest.now c.args.r l.j h in
+    let z = option_no c.args.lo.now c.args.host.now c.args.ungated.now c.args.has_ungated.now c.args.r l.j h in
+    (omega arith, omega (arith, w.4), omega (arith, w.1), omega (arith, w.2), omega (arith, w.3, z.1), omega (arith, w.4, z.0)))
+    v)
+    c.if-hangs.branch
+
+pub returns : goal.returns
+returns c =
+    let e : c.loop-j.j ≡ c.args.n = omega arith in
+    let i = c.loop-j.invariant in
+    rw (← e) (i.2, i.3, i.4, i.5, i.1)

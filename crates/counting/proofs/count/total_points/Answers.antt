@@ -1,0 +1,32 @@
+-- `counting::count::total_points` meets its contract: the sum so far is that of the clusters passed.
+-- Assumes nothing.
+use Prim.Native.Nat.{◌≤◌, ◌-◌}
+use mathlib.Core.Path.{◌≡◌, sym}
+use mathlib.Core.Logic.{⊎_elim}
+use native.Mathlib.Omega.{arith}
+use Rattle.counting.specs.Count.{root_sum}
+use Rattle.counting.specs.CountTotal.{roots-none, roots-more, roots-same, roots-room}
+use Rattle.counting.proofs.count.total_points.Goals as goal
+
+pub loop-r-init : goal.loop-r-init
+loop-r-init c = (omega arith, sym (roots-none _ _))
+
+pub overflow_add-sum : goal.overflow_add-sum
+overflow_add-sum c =
+    let a = c.args in
+    let l = c.loop-r in
+    omega (arith, roots-room a.lo.now a.fewest.now l.r a.n (omega arith) c.if-lo-r-eq0.true)
+
+pub loop-r-preserved : goal.loop-r-preserved
+loop-r-preserved c =
+    let a = c.args in
+    let l = c.loop-r in
+    ⊎_elim
+    (λ w. let z = roots-more a.lo.now a.fewest.now l.r w.0.taken in (omega arith, omega (arith, w.2)))
+    (λ w. let z = roots-same a.lo.now a.fewest.now l.r w.0.left in (omega arith, omega (arith, w.1)))
+    c.if-lo-r-eq0.branch
+
+pub returns : goal.returns
+returns c =
+    let e : c.loop-r.r ≡ c.args.n = omega arith in
+    rw (← e) c.loop-r.invariant.1

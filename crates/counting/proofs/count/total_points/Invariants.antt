@@ -1,0 +1,15 @@
+-- `counting::count::total_points` meets its contract: the sum so far is that of the clusters passed.
+-- Assumes nothing.
+use Prim.Native.Nat.{◌≤◌, ◌-◌}
+use mathlib.Core.Path.{◌≡◌, sym}
+use mathlib.Core.Logic.{⊎_elim}
+use native.Mathlib.Omega.{arith}
+use Rattle.counting.specs.Count.{root_sum}
+use Rattle.counting.specs.CountTotal.{roots-none, roots-more, roots-same, roots-room}
+use Rattle.counting.proofs.count.total_points.Given as goal
+
+abbrev pub invariant-loop-r : goal.invariant-loop-r
+invariant-loop-r l = (l.r ≤ l.n) × (l.sum ≡ root_sum l.r l.lo l.fewest)
+
+abbrev pub decreases-loop-r : goal.decreases-loop-r
+decreases-loop-r l = l.n - l.r
