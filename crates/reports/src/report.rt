@@ -3,7 +3,7 @@ ghost use Rattle.std.specs.Prelude.{◌≡◌, length};
 ghost use Rattle.reports.specs.Promise.{report_answer, report_buffer};
 
 use crate::count::piece_count;
-use lists::check::list_refusal;
+use lists::by_wire::list_refusal;
 use net::answers::{answered, none, refused};
 use net::call::call_refusal;
 use net::layout::RECORD_BYTES;

@@ -1,13 +1,10 @@
--- `lists::wire::doubled_step` meets its contract.
+-- `lists::doubling::doubled_step` meets its contract.
 -- Assumes nothing.
 -- half the step leads to an entry of the wire
-use Prim.Native.Nat.{◌+◌, ◌*◌, ◌/◌, ◌-◌, ◌<◌, ◌≤◌}
+use Prim.Native.Nat.{◌+◌, ◌*◌, ◌/◌}
 use mathlib.Core.Path.{◌≡◌}
 use native.Mathlib.Omega.{arith}
-use borrow.Author.Rules.{rules}
-use Rattle.pieces.specs.Legal.{entry_wire}
-use Rattle.pieces.specs.JumperList.{entry_count}
-use Rattle.lists.proofs.wire.doubled_step.Goals as goal
+use Rattle.lists.proofs.doubling.doubled_step.Goals as goal
 
 pub loop-step-init : goal.loop-step-init
 loop-step-init c =

@@ -1,10 +1,9 @@
--- `lists::check::position_refusal` meets its contract.
+-- `lists::by_wire::position_refusal` meets its contract.
 -- Assumes nothing.
 use mathlib.Core.Path.{◌∙◌, sym}
 use native.Mathlib.Omega.{arith}
-use borrow.Author.Rules.{rules}
-use Rattle.lists.specs.EntriesChecked.{position_at_node, position-behind, position-barred, position-right}
-use Rattle.lists.proofs.check.position_refusal.Goals as goal
+use Rattle.lists.specs.EntriesByWire.{position_at_node, position-behind, position-barred, position-right}
+use Rattle.lists.proofs.by_wire.position_refusal.Goals as goal
 
 pub returns-then-t-eq0 : goal.returns-then-t-eq0
 returns-then-t-eq0 c = c.refused.ensures ∙ position_at_node _ _ _ _ _ _ _ _ c.if-t-eq0.true

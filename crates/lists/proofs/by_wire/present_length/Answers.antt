@@ -1,11 +1,10 @@
--- `lists::check::present_length` meets its contract.
+-- `lists::by_wire::present_length` meets its contract.
 -- Assumes nothing.
 use mathlib.Core.Path.{sym, ◌∙◌}
 use native.Mathlib.Omega.{arith}
-use borrow.Author.Tests.{not-true, not-false}
-use borrow.Author.Rules.{rules}
-use Rattle.lists.specs.EntriesChecked.{length_no_wire, length-absent, length-present, wire-stored, present-checked}
-use Rattle.lists.proofs.check.present_length.Goals as goal
+use Rattle.lists.specs.EntriesByWire.{length_no_wire, length-absent, length-present}
+use Rattle.lists.specs.EntriesChecked.{wire-stored, present-checked}
+use Rattle.lists.proofs.by_wire.present_length.Goals as goal
 
 pub returns-then-node_count-i : goal.returns-then-node_count-i
 returns-then-node_count-i c = length_no_wire _ _ _ _ (omega arith)

@@ -1,11 +1,10 @@
--- `lists::wire::is_of_wire` meets its contract.
+-- `lists::doubling::is_of_wire` meets its contract.
 -- Assumes nothing.
 use mathlib.Core.Path.{refl, sym, ◌∙◌}
 use native.Mathlib.Omega.{arith}
-use borrow.Author.Rules.{rules}
 use borrow.Author.Tests.{eqb-true, eqb-false}
 use Rattle.laws.specs.Sums.{no_both}
-use Rattle.lists.proofs.wire.is_of_wire.Goals as goal
+use Rattle.lists.proofs.doubling.is_of_wire.Goals as goal
 
 pub returns-then-entry_count-e : goal.returns-then-entry_count-e
 returns-then-entry_count-e c = (λ t. absurd (no_both t refl), λ t l w. omega arith)
