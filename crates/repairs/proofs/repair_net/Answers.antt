@@ -26,10 +26,8 @@ use Rattle.repairs.specs.Promise.{no_legal_set}
 use Rattle.repairs.specs.RepairLaws.{Planned, ready_of, none_of, choosable_of, planned, planned-some, count-few, judged-short, judged-done}
 use Rattle.repairs.proofs.repair_net.Goals as goal
 
--- UNPARSED
 -- ---- and how long they are
 
--- UNPARSED
 -- ---- the needs
 
 pub first_passes-requires : goal.first_passes-requires

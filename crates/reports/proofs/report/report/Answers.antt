@@ -18,15 +18,13 @@ use Rattle.pieces.specs.JumperList.{list_refusal}
 use Rattle.lists.specs.EntriesChecked.{list_none}
 use Rattle.reports.specs.Promise.{piece_count, pieces_buffer}
 use Rattle.records.specs.ListRight.{ListRight}
-use Rattle.reports.specs.Reporting.{pieces_over, report_fits, call_refused_answer, call_refused_buffer, list_refused_answer, list_refused_buffer, short-answer, short-buffer, done-answer, done-buffer}
+use Rattle.reports.specs.Reporting.{call_refused_answer, call_refused_buffer, list_refused_answer, list_refused_buffer, short-answer, short-buffer, done-answer, done-buffer}
 use Rattle.reports.proofs.report.report.Goals as goal
 
--- UNPARSED
 module _ {ns ns' ws ws' : List ℕ} (e : ns ≡ ns') (f : ws ≡ ws') (v : ℕ) (os : List ℕ) (k : ℕ) where
   right_of : {list : List ℕ} → ListRight v ns' ws' k list os → ListRight v ns ws k list os
   right_of r = rw (e, f) r
 
-  -- UNPARSED
   stage-of : stage_of v ns ws os k ≡ stage_of v ns' ws' os k
   stage-of = rw (e, f)
 
@@ -83,14 +81,14 @@ returns-then-out-needed c =
       short-buffer a.stage a.file.now a.jumpers.now a.limit a.out.now ((let it : met (call_refusal c.args.stage c.args.file.now) ≡ false = call_unmet c.args.stage c.args.file.now ((let it : (call_refusal c.args.stage c.args.file.now).number ≡ 0 = rw c.call_refusal-of_call.ensures at c.if-of_call-ne0.false in it)) in it)) right.listed less,
     )
 
-pub write_records-requires : goal.write_records-requires
-write_records-requires c =
+pub write_pieces-requires : goal.write_pieces-requires
+write_pieces-requires c =
     let a = c.args in
     let v = version_of a.file.now in
     let os = obstacles_of a.file.now in
     record {
       list_accepted = (v, os, right_of c.nodes-nodes.ensures c.wires-wires.ensures v os a.stage ((let it : ListRight (version_of c.args.file.now) (nodes_of c.args.file.now) (wires_of c.args.file.now) c.args.stage c.args.jumpers.now (obstacles_of c.args.file.now) = let a = c.args in record { right = call_right a.stage a.file.now ((let it : met (call_refusal c.args.stage c.args.file.now) ≡ false = call_unmet c.args.stage c.args.file.now ((let it : (call_refusal c.args.stage c.args.file.now).number ≡ 0 = rw c.call_refusal-of_call.ensures at c.if-of_call-ne0.false in it)) in it)); listed = list_none (net_at a.file.now a.stage) a.jumpers.now (rw ((let it : c.list_refusal-of_list.result ≡ list_refusal (net_at c.args.file.now c.args.stage) c.args.jumpers.now = rw (c.nodes-nodes.ensures, c.wires-wires.ensures, c.version.ensures, c.obstacles.ensures) at c.list_refusal-of_list.ensures in it)) at c.if-of_list-ne0.false) } in it)));
-      records_fit = λ v os j. report_fits (stage_of v _ _ os a.stage) a.limit a.jumpers.now (c.piece_count-records.ensures.0 v os j) (omega (arith, c.if-out-needed.false));
+      records_fit = λ v os j. omega (arith, c.piece_count-records.ensures.0 v os j, c.if-out-needed.false);
     }
 
 pub returns : goal.returns
@@ -103,9 +101,8 @@ returns c =
     let v = version_of a.file.now in
     let os = obstacles_of a.file.now in
     let written =
-    c.write_records.ensures v os (right_of e f v os a.stage right)
-    ∙ (pieces_over (stage_of v _ _ os a.stage) a.limit a.jumpers.now a.out.now
-    ∙ ap (λ (s : Stage). pieces_buffer s a.limit a.jumpers.now a.out.now) (stage-of e f v os a.stage)) in
+    c.write_pieces.ensures v os (right_of e f v os a.stage right)
+    ∙ ap (λ (s : Stage). pieces_buffer s a.limit a.jumpers.now a.out.now) (stage-of e f v os a.stage) in
     let room : record_bytes * piece_count (net_at a.file.now a.stage) a.jumpers.now ≤ length a.out.now = omega (arith, n, c.if-out-needed.false) in (
       c.answered-2.ensures
           ∙ rw c.none.ensures (done-answer a.stage a.file.now a.jumpers.now a.limit a.out.now ((let it : met (call_refusal c.args.stage c.args.file.now) ≡ false = call_unmet c.args.stage c.args.file.now ((let it : (call_refusal c.args.stage c.args.file.now).number ≡ 0 = rw c.call_refusal-of_call.ensures at c.if-of_call-ne0.false in it)) in it)) right.listed room _ n),
