@@ -1,4 +1,4 @@
-// The public calls of the desk as C exports. Each takes any input and carries the whole promise of the call behind it.
+// The public calls of the desk. Each takes any input and carries the whole promise of the call behind it.
 #![tactic(auto)]
 
 ghost use Rattle.std.specs.Prelude.{◌≡◌, length};
@@ -10,16 +10,14 @@ ghost use Rattle.def.specs.Promise.{def_answer, def_buffer};
 use net::Answer;
 
 // Reads a net file alone: 2 to 11 and 20, or the number of nodes.
-#[unsafe(no_mangle)]
-pub extern "C" fn antenna_read(file: &[u8]) -> Answer
+pub fn antenna_read(file: &[u8]) -> Answer
     ensures { result ≡ read_answer file.now }
 {
     net::read::read(file)
 }
 
 // Writes the net file of a version and three sections: 2, 4 to 11 and 20, 16, or the number of bytes written.
-#[unsafe(no_mangle)]
-pub extern "C" fn antenna_write(
+pub fn antenna_write(
     version: u32,
     nodes: &[u8],
     wires: &[u8],
@@ -32,8 +30,7 @@ pub extern "C" fn antenna_write(
 }
 
 // Reports every piece of a net at a stage with jumpers in place: 1, 2 to 11 and 20, 12 to 14, 16, or the number of records.
-#[unsafe(no_mangle)]
-pub extern "C" fn antenna_report(
+pub fn antenna_report(
     stage: u32,
     limit: u32,
     file: &[u8],
@@ -46,16 +43,14 @@ pub extern "C" fn antenna_report(
 }
 
 // Finds a smallest legal jumper set of a net at a stage under a limit: 1, 2 to 11 and 20, 15, 16, or the number of jumpers written.
-#[unsafe(no_mangle)]
-pub extern "C" fn antenna_repair(stage: u32, limit: u32, file: &[u8], out: &mut [u8]) -> Answer
+pub fn antenna_repair(stage: u32, limit: u32, file: &[u8], out: &mut [u8]) -> Answer
     ensures { Repaired stage limit file.now out.old out.new result }
 {
     repairs::repair(stage, limit, file, out)
 }
 
 // Reads one net's routing from DEF text, from a place on, and writes its net file: 17 or 18, 19, 4 to 11, 16, or the place after `;` and the number of bytes written.
-#[unsafe(no_mangle)]
-pub extern "C" fn antenna_def(
+pub fn antenna_def(
     text: &[u8],
     place: usize,
     pins: &[u8],

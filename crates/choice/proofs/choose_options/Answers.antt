@@ -9,6 +9,7 @@ use Rattle.choice.specs.Choose.{ChoiceLengths, Chooses, cut_here, any_here}
 use Rattle.choice.specs.ChooseLaws.{cut_here-root, any_here-root, cut_here-branch, any_here-branch, chooses_more}
 use borrow.Author.Rules.{rules}
 use Rattle.choice.proofs.choose_options.Goals as goal
+use Rattle.choice.proofs.choose_options.Goals.{then-low-gt0, else-low-gt0}
 
 pub loop-r-init : goal.loop-r-init
 loop-r-init c = (omega arith, refl, refl, λ j p. absurd (native.Mathlib.Nat.lt_irrefl 0 (omega arith)))
@@ -87,13 +88,33 @@ pub loop-r-preserved : goal.loop-r-preserved
 loop-r-preserved c =
     let l = c.loop-r in
     let a = c.args in
-    let e = (let it : (c.if-low-gt0.here ≡ cut_here c.args.lo.now c.args.host.now c.args.cut_any.now c.args.has_ungated.now c.loop-r.any_mode c.loop-r.r) × (c.if-low-gt0.any ≡ any_here c.args.wires.now c.args.lo.now c.args.hi.now c.args.host.now c.args.any_ok.now c.args.any_weight.now c.args.near.now c.args.limit c.loop-r.any_mode c.if-low-gt0.here c.loop-r.r) = let a = c.args in let l = c.loop-r in ⊎_elim (λ w. ( cut_here-branch a.wires.now a.lo.now a.hi.now a.host.now a.cut_any.now a.any_ok.now a.any_weight.now a.has_ungated.now a.near.now a.limit l.any_mode l.r c.if-low-gt0.here w.0.taken (w.12 ∙ w.5.ensures), rw w.12 (any_here-branch a.wires.now a.lo.now a.hi.now a.host.now a.cut_any.now a.any_ok.now a.any_weight.now a.has_ungated.now a.near.now a.limit l.any_mode w.5.result c.if-low-gt0.any w.9.result l.r w.0.taken (w.13 ∙ w.11.ensures) w.9.ensures), )) (λ w. ( w.1 ∙ cut_here-root a.wires.now a.lo.now a.hi.now a.host.now a.cut_any.now a.any_ok.now a.any_weight.now a.has_ungated.now a.near.now a.limit l.any_mode l.r w.0.left, w.2 ∙ any_here-root a.wires.now a.lo.now a.hi.now a.host.now a.cut_any.now a.any_ok.now a.any_weight.now a.has_ungated.now a.near.now a.limit l.any_mode c.if-low-gt0.here l.r w.0.left, )) c.if-low-gt0.branch in it) in (
+    let q = c.requires.choosable in
+    let e : (c.if-low-gt0.here ≡ cut_here a.lo.now a.host.now a.cut_any.now a.has_ungated.now l.any_mode l.r)
+        × (c.if-low-gt0.any ≡ any_here a.wires.now a.lo.now a.hi.now a.host.now a.any_ok.now a.any_weight.now a.near.now a.limit l.any_mode c.if-low-gt0.here l.r) =
+    elim c.if-low-gt0.branch [
+      then-low-gt0 w ↦ (
+        cut_here-branch a.wires.now a.lo.now a.hi.now a.host.now a.cut_any.now a.any_ok.now a.any_weight.now a.has_ungated.now a.near.now a.limit
+            l.any_mode l.r c.if-low-gt0.here w.if-low-gt0.true (w.here-is ∙ w.is_cut_high-here.ensures),
+        rw w.here-is
+            (any_here-branch a.wires.now a.lo.now a.hi.now a.host.now a.cut_any.now a.any_ok.now a.any_weight.now a.has_ungated.now a.near.now a.limit
+            l.any_mode w.is_cut_high-here.result c.if-low-gt0.any w.fits_whole-fits.result l.r w.if-low-gt0.true (w.any-is ∙ w.takes_any-any.ensures) w.fits_whole-fits.ensures),
+      )
+      | else-low-gt0 w ↦ (
+        w.here-is
+            ∙ cut_here-root a.wires.now a.lo.now a.hi.now a.host.now a.cut_any.now a.any_ok.now a.any_weight.now a.has_ungated.now a.near.now a.limit
+            l.any_mode l.r w.if-low-gt0.false,
+        w.any-is
+            ∙ any_here-root a.wires.now a.lo.now a.hi.now a.host.now a.cut_any.now a.any_ok.now a.any_weight.now a.has_ungated.now a.near.now a.limit
+            l.any_mode c.if-low-gt0.here l.r w.if-low-gt0.false,
+      )
+    ]
+    in (
       omega (arith, c.loop-r-test.true),
       length-set l.any_mode l.r c.if-low-gt0.any ∙ l.invariant.1,
       length-set l.cut_high l.r c.if-low-gt0.here ∙ l.invariant.2,
       chooses_more a.wires.now a.lo.now a.hi.now a.host.now a.cut_any.now a.any_ok.now a.any_weight.now a.has_ungated.now a.near.now a.limit
           l.any_mode l.cut_high l.r c.if-low-gt0.here c.if-low-gt0.any (omega (arith, c.loop-r-test.true, c.requires.n_in_bounds.0, l.invariant.1)) (omega (arith, c.loop-r-test.true, c.requires.n_in_bounds.1, l.invariant.2))
-          (λ j p. c.requires.choosable.below j (omega (arith, c.loop-r-test.true))) e.0 e.1 l.invariant.3,
+          (λ j p. q.below j (omega (arith, c.loop-r-test.true))) e.0 e.1 l.invariant.3,
     )
 
 pub shape_of-any_mode : goal.shape_of-any_mode

@@ -7,7 +7,7 @@ use Rattle.counting.specs.CloseCutting.{cutting_start, cutting_more, cutting_ste
 use Rattle.counting.proofs.close.cut_heaviest.Given as goal
 
 abbrev pub invariant-loop-left : goal.invariant-loop-left
-invariant-loop-left l = Cutting l.n l.lo l.host l.lightest l.initial.cutAny l.cut_any l.r l.fixed l.limit l.cuts l.left × (l.cuts + l.left ≤ l.fixed + branch_sum l.n l.lo l.host l.r l.lightest)
+invariant-loop-left l = Cutting l.n l.lo l.host l.lightest l.initial.cut_any l.cut_any l.r l.fixed l.limit l.cuts l.left × (l.cuts + l.left ≤ l.fixed + branch_sum l.n l.lo l.host l.r l.lightest)
 
 abbrev pub decreases-loop-left : goal.decreases-loop-left
 decreases-loop-left l = l.left

@@ -80,7 +80,7 @@ climb_at-y-requires c =
     let l = c.loop-r in
     let q = l.r - 1 in record {
       branch = (λ h. branch_of a.n a.nodes.now a.wires.now a.obstacles.now a.lo.now a.hi.now a.host.now a.fixed.now a.gates.now c.requires.ready q ((let it : c.loop-r.r - 1 < c.args.n = omega (arith, c.loop-r.invariant.0, c.loop-r-test.true) in it)) h);
-      closable = closable a.n a.lo.now a.host.now l.count l.lightest l.has_ungated l.ungated c.close-x.last.1.1.1.1.1.1.0 (cluster_at a.fixed.now a.gates.now q) a.limit c.close-x.result ((let it : Room c.args.n c.args.lo.now c.args.host.now c.loop-r.count c.loop-r.lightest c.loop-r.has_ungated c.loop-r.ungated (cluster_at c.args.fixed.now c.args.gates.now (c.loop-r.r - 1)) = let a = c.args in let l = c.loop-r in room_of a.n a.nodes.now a.wires.now a.obstacles.now a.lo.now a.hi.now a.host.now a.fixed.now a.gates.now c.requires.ready a.limit l.cut_any l.fewest l.any_ok l.any_weight l.count l.lightest l.has_ungated l.ungated l.near (l.r - 1) ((let it : c.loop-r.r - 1 < c.args.n = omega (arith, c.loop-r.invariant.0, c.loop-r-test.true) in it)) (rw ((let it : c.loop-r.r - 1 + 1 ≡ c.loop-r.r = omega (arith, c.loop-r-test.true) in it)) l.invariant.1) in it)) c.close-x.ensures.closed;
+      closable = closable a.n a.lo.now a.host.now l.count l.lightest l.has_ungated l.ungated c.close-x.new.cut_any (cluster_at a.fixed.now a.gates.now q) a.limit c.close-x.result ((let it : Room c.args.n c.args.lo.now c.args.host.now c.loop-r.count c.loop-r.lightest c.loop-r.has_ungated c.loop-r.ungated (cluster_at c.args.fixed.now c.args.gates.now (c.loop-r.r - 1)) = let a = c.args in let l = c.loop-r in room_of a.n a.nodes.now a.wires.now a.obstacles.now a.lo.now a.hi.now a.host.now a.fixed.now a.gates.now c.requires.ready a.limit l.cut_any l.fewest l.any_ok l.any_weight l.count l.lightest l.has_ungated l.ungated l.near (l.r - 1) ((let it : c.loop-r.r - 1 < c.args.n = omega (arith, c.loop-r.invariant.0, c.loop-r-test.true) in it)) (rw ((let it : c.loop-r.r - 1 + 1 ≡ c.loop-r.r = omega (arith, c.loop-r-test.true) in it)) l.invariant.1) in it)) c.close-x.ensures.closed;
     }
 
 pub offset_bounds-count-r : goal.offset_bounds-count-r
@@ -111,7 +111,7 @@ pub bounds-near-r : goal.bounds-near-r
 bounds-near-r c = omega (arith, (let it : c.loop-r.r - 1 < c.args.n = omega (arith, c.loop-r.invariant.0, c.loop-r-test.true) in it), ((let it : CountLengths c.args.n c.args.lo.now c.args.hi.now c.args.host.now c.args.fixed.now c.args.gates.now c.loop-r.cut_any c.loop-r.any_ok c.loop-r.any_weight c.loop-r.has_ungated c.loop-r.near c.loop-r.fewest = let p = c.requires.count_lengths in let k = c.loop-r.invariant.3 in record { hanging = p.hanging; his = p.his; fixeds = p.fixeds; gate_counts = p.gate_counts; cuts = omega (arith, p.cuts, k.cuts); anys = omega (arith, p.anys, k.anys); any_weights = omega (arith, p.any_weights, k.any_weights); flags = omega (arith, p.flags, k.flags); nears = omega (arith, p.nears, k.nears); fewests = omega (arith, p.fewests, k.fewests); } in it)).nears)
 
 pub loop-r-smaller : goal.loop-r-smaller
-loop-r-smaller c = omega (arith, c.loop-r-test.taken)
+loop-r-smaller c = omega (arith, c.loop-r-test.true)
 
 pub loop-r-preserved : goal.loop-r-preserved
 loop-r-preserved c =
@@ -122,7 +122,7 @@ loop-r-preserved c =
     let q = l.r - 1 in
     let x = c.close-x.result in
     let y = c.climb_at-y.result in
-    let marks = c.close-x.last.1.1.1.1.1.1.0 in (
+    let marks = c.close-x.new.cut_any in (
       omega (arith, (let it : c.loop-r.r - 1 < c.args.n = omega (arith, c.loop-r.invariant.0, c.loop-r-test.true) in it)),
       counted-turn a.n a.nodes.now a.wires.now a.obstacles.now a.lo.now a.hi.now a.host.now a.fixed.now a.gates.now ready a.limit q ((let it : c.loop-r.r - 1 < c.args.n = omega (arith, c.loop-r.invariant.0, c.loop-r-test.true) in it))
           l.cut_any marks l.any_ok l.any_weight l.has_ungated l.near l.fewest l.count l.lightest l.ungated x y

@@ -33,21 +33,20 @@ count_clusters-requires c =
 
 pub total_points-requires : goal.total_points-requires
 total_points-requires c =
-    let x = c.count_clusters.last in
     let a = c.args in
     let ready = c.requires.ready in
     let long = c.requires.count_lengths in (
       long.hanging.los,
-      omega (arith, long.fewests, c.count_clusters.kept.1.1.1.1.1.1.1.1.1.1.1.1.1.0),
+      omega (arith, long.fewests, c.count_clusters.auto.fewest),
       omega (
         arith,
         ready.few,
-        roots_few a.n a.nodes.now a.wires.now a.obstacles.now a.lo.now a.hi.now a.host.now a.fixed.now a.gates.now ready a.limit x.1.1.1.1.1.1.1.1.0 x.1.1.1.1.1.1.1.1.1.1.1.1.1.0 x.1.1.1.1.1.1.1.1.1.0 x.1.1.1.1.1.1.1.1.1.1.0 x.1.1.1.1.1.1.1.1.1.1.1.1.1.1.0 x.1.1.1.1.1.1.1.1.1.1.1.1.1.1.1.0 x.1.1.1.1.1.1.1.1.1.1.1.0 x.1.1.1.1.1.1.1.1.1.1.1.1.1.1.1.1.0 x.1.1.1.1.1.1.1.1.1.1.1.1.0 c.count_clusters.ensures,
+        roots_few a.n a.nodes.now a.wires.now a.obstacles.now a.lo.now a.hi.now a.host.now a.fixed.now a.gates.now ready a.limit c.count_clusters.new.cut_any c.count_clusters.new.fewest c.count_clusters.new.any_ok c.count_clusters.new.any_weight c.count_clusters.new.count c.count_clusters.new.lightest c.count_clusters.new.has_ungated c.count_clusters.new.ungated c.count_clusters.new.near c.count_clusters.ensures,
       ),
     )
 
 pub shape_of-cut_any : goal.shape_of-cut_any
-shape_of-cut_any c = omega (arith, c.count_clusters.kept.1.1.1.1.1.1.1.1.0, c.clear.kept.0)
+shape_of-cut_any c = omega (arith, c.count_clusters.auto.cut_any, c.clear.auto.cut_any)
 
 pub shape_of-any_ok : goal.shape_of-any_ok
 shape_of-any_ok c = c.count_clusters.auto.any_ok
@@ -66,5 +65,4 @@ shape_of-fewest c = c.count_clusters.auto.fewest
 
 pub returns : goal.returns
 returns c =
-    let x = c.count_clusters.last in
-    record { count = x.1.1.1.1.1.1.1.1.1.1.1.1.1.1.0; lightest = x.1.1.1.1.1.1.1.1.1.1.1.1.1.1.1.0; ungated = x.1.1.1.1.1.1.1.1.1.1.1.1.1.1.1.1.0; counted = c.count_clusters.ensures; points_is = c.total_points.ensures }
+    record { count = c.count_clusters.new.count; lightest = c.count_clusters.new.lightest; ungated = c.count_clusters.new.ungated; counted = c.count_clusters.ensures; points_is = c.total_points.ensures }

@@ -7,6 +7,7 @@ use native.Mathlib.Omega.{arith}
 use Rattle.counting.specs.Count.{root_sum}
 use Rattle.counting.specs.CountTotal.{roots-none, roots-more, roots-same, roots-room}
 use Rattle.counting.proofs.count.total_points.Goals as goal
+use Rattle.counting.proofs.count.total_points.Goals.{then-lo-r-eq0, else-lo-r-eq0}
 
 pub loop-r-init : goal.loop-r-init
 loop-r-init c = (omega arith, sym (roots-none _ _))
@@ -21,10 +22,10 @@ pub loop-r-preserved : goal.loop-r-preserved
 loop-r-preserved c =
     let a = c.args in
     let l = c.loop-r in
-    ⊎_elim
-    (λ w. let z = roots-more a.lo.now a.fewest.now l.r w.0.taken in (omega arith, omega (arith, w.2)))
-    (λ w. let z = roots-same a.lo.now a.fewest.now l.r w.0.left in (omega arith, omega (arith, w.1)))
-    c.if-lo-r-eq0.branch
+    elim c.if-lo-r-eq0.branch [
+      then-lo-r-eq0 w ↦ let z = roots-more a.lo.now a.fewest.now l.r w.if-lo-r-eq0.true in (omega arith, omega (arith, w.sum-is))
+      | else-lo-r-eq0 w ↦ let z = roots-same a.lo.now a.fewest.now l.r w.if-lo-r-eq0.false in (omega arith, omega (arith, w.sum-is))
+    ]
 
 pub returns : goal.returns
 returns c =
