@@ -76,6 +76,13 @@ placed_record at k l x number position weight flags layers h e = place-part at (
 pub part_record : (at above : ℕ) (l : List ℕ) → at ≡ above → NodeRecord (drop above l) → NodeRecord (take (length l - at) (drop at l))
 part_record at above l e s = rw (part-all at l, e) s
 
+-- where a record begins, read at an equal index
+pub same_place : (places : List ℕ) {p q : ℕ} → p ≡ q → get_or places p 0 ≡ get_or places q 0
+same_place places e = rw e
+
+pub room_there : (places out : List ℕ) {p q : ℕ} → p ≡ q → get_or places q 0 + record_bytes ≤ length out → get_or places p 0 + record_bytes ≤ length out
+room_there places out e h = rw e h
+
 pub placed-joined : (limit at weight flags layers above weight' flags' layers' : ℕ) (l x : List ℕ) → at ≡ above → weight ≡ weight' → flags ≡ flags' → layers ≡ layers' →
     x ≡ joined limit weight flags layers (take (length l - at) (drop at l)) ++ drop record_bytes (take (length l - at) (drop at l)) →
     take at l ++ (x ++ drop (length l - at) (drop at l)) ≡ joined_above limit above weight' flags' layers' l

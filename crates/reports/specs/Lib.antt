@@ -8,5 +8,6 @@ pub mod Writing
 pub mod StretchRecords
 pub mod Counting
 pub mod Reporting
+pub mod FromFile
 pub mod Promise
 pub mod Excluded

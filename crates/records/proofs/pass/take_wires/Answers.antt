@@ -3,8 +3,6 @@
 use mathlib.Core.Path.{◌≡◌, refl, ◌∙◌}
 use native.Mathlib.Omega.{arith}
 use Rattle.net.specs.Net.{node_count}
-use Rattle.pieces.specs.JumperList.{entry_count}
-use Rattle.lists.specs.EntriesOfWire.{OfWire}
 use Rattle.records.specs.Reached.{reached_none, reached_first, reached_wire, reached_next}
 use Rattle.records.specs.Taken.{taken_none, taken_rest, taken_all}
 use Rattle.records.proofs.pass.take_wires.Goals as goal
@@ -32,10 +30,13 @@ entries_end-end-requires c =
 
 pub take_wire-at-requires : goal.take_wire-at-requires
 take_wire-at-requires c =
+    let a = c.args in
     let v = c.loop-i.invariant in
+    let n = c.entries_end-end.ensures in
+    let w = reached_wire a.nodes.now a.wires.now a.jumpers.now a.stage c.requires.list_accepted c.loop-i.i c.loop-i.e c.entries_end-end.result v.2 n.0 n.1 n.2 n.3 in
     record {
       list_accepted = c.requires.list_accepted;
-      i_bound = (omega (arith, v.1), (let it : OfWire c.args.jumpers.now (entry_count c.args.jumpers.now) c.loop-i.i c.loop-i.e c.entries_end-end.result = let a = c.args in let n = c.entries_end-end.ensures in reached_wire a.nodes.now a.wires.now a.jumpers.now a.stage c.requires.list_accepted c.loop-i.i c.loop-i.e c.entries_end-end.result c.loop-i.invariant.2 n.0 n.1 n.2 n.3 in it));
+      i_bound = (omega (arith, v.1), w);
       nodes_in_bounds = (omega (arith, c.requires.nodes_in_bounds.0, v.5), λ w os j. omega (arith, c.requires.nodes_in_bounds.1 w os j, v.6));
       held_below = v.3;
     }
@@ -44,11 +45,13 @@ pub loop-i-preserved : goal.loop-i-preserved
 loop-i-preserved c =
     let a = c.args in
     let v = c.loop-i.invariant in
+    let n = c.entries_end-end.ensures in
+    let w = reached_wire a.nodes.now a.wires.now a.jumpers.now a.stage c.requires.list_accepted c.loop-i.i c.loop-i.e c.entries_end-end.result v.2 n.0 n.1 n.2 n.3 in
     let t = c.take_wire-at.ensures in
     let k = c.take_wire-at.auto in (
       omega (arith, v.1),
       v.1,
-      reached_next a.nodes.now a.wires.now a.jumpers.now a.stage c.requires.list_accepted c.loop-i.i c.loop-i.e c.entries_end-end.result ((let it : OfWire c.args.jumpers.now (entry_count c.args.jumpers.now) c.loop-i.i c.loop-i.e c.entries_end-end.result = let a = c.args in let n = c.entries_end-end.ensures in reached_wire a.nodes.now a.wires.now a.jumpers.now a.stage c.requires.list_accepted c.loop-i.i c.loop-i.e c.entries_end-end.result c.loop-i.invariant.2 n.0 n.1 n.2 n.3 in it)),
+      reached_next a.nodes.now a.wires.now a.jumpers.now a.stage c.requires.list_accepted c.loop-i.i c.loop-i.e c.entries_end-end.result w,
       t.0,
       taken_rest a.out.now c.requires.list_accepted v.3 t.0 v.4 t.1,
       k.places ∙ v.5,

@@ -1,6 +1,5 @@
 -- `records::wire::part_wire` meets its contract.
 -- Assumes nothing.
--- ---- what is known from each place on
 use Prim.Native.Nat.{ℕ, ◌+◌, ◌-◌, ◌*◌, ◌^◌, ◌≤◌}
 use mathlib.Core.Path.{◌≡◌, refl, ◌∙◌, ap}
 use mathlib.Core.List.{List, ◌++◌}
@@ -10,9 +9,9 @@ use Rattle.laws.specs.Place.{place, place-more, part-long}
 use Rattle.net.specs.Layout.{record_bytes}
 use Rattle.net.specs.Net.{node_flags, wire_parent, wire_layer, wire_factor, wire_length}
 use Rattle.pieces.specs.Legal.{entry_position}
-use Rattle.records.specs.Record.{with_harm, node_fields, stretches_fields}
+use Rattle.records.specs.Record.{with_harm, node_fields, stretches_fields, joined}
 use Rattle.records.specs.Wire.{joined_above}
-use Rattle.records.specs.RecordBytes.{fields-length, part_record, placed-joined, joined_above_length}
+use Rattle.records.specs.RecordBytes.{fields-length, part_record, placed-joined, same_place, room_there, joined_above_length}
 use Rattle.records.specs.Stretches.{stretches-length}
 use Rattle.records.proofs.wire.part_wire.Goals as goal
 
@@ -27,27 +26,42 @@ behind-place : (at behind : ℕ) {q q' r r' l l' x y : List ℕ} → q ≡ q' �
     x ≡ place at q l → y ≡ place behind r x → y ≡ place at (q' ++ r') l'
 behind-place at behind {q} {q'} {r} {r'} {l} {l'} {x} {y} a b c d h e g = g ∙ rw (e, a, b, c, d) (place-more at q' r' l' h)
 
+-- the buffer once the steps above the last jumper are joined
+above-joined : (limit : ℕ) (ns ws list places : List ℕ) (i end : ℕ) (out x : List ℕ) {p n t w m : ℕ} →
+    p ≡ wire_parent ws i → n ≡ wire_length ns ws i → t ≡ entry_position list (end - 1) → w ≡ (n - t) * wire_factor ws i → m ≡ 2 ^ (wire_layer ws i - 1) →
+    let at = get_or places p 0 in
+    x ≡ joined limit w 0 m (take (length out - at) (drop at out)) ++ drop record_bytes (take (length out - at) (drop at out)) →
+    take at out ++ (x ++ drop (length out - at) (drop at out))
+    ≡ joined_above limit (get_or places (wire_parent ws i) 0) ((wire_length ns ws i - entry_position list (end - 1)) * wire_factor ws i) 0 (2 ^ (wire_layer ws i - 1)) out
+above-joined limit ns ws list places i end out x {p} {n} {t} {w} {m} pe ne te we me e =
+    let weight : w ≡ (wire_length ns ws i - entry_position list (end - 1)) * wire_factor ws i = we ∙ rw (ne, te) in
+    placed-joined limit (get_or places p 0) w 0 m _ _ _ _ out x (same_place places pe) weight refl me e
+
 pub slice_bounds-join_record-count : goal.slice_bounds-join_record-count
-slice_bounds-join_record-count c = omega (arith, (let it : (get_or c.args.places.now c.wire_parent.result 0) + record_bytes ≤ length c.args.out.now = omega (arith, (let it : (get_or c.args.places.now c.wire_parent.result 0) ≡ get_or c.args.places.now (wire_parent c.args.wires.now c.args.i) 0 = ap (λ (x : ℕ). get_or c.args.places.now x 0) c.wire_parent.ensures in it), c.requires.wire_ready.above) in it))
+slice_bounds-join_record-count c = omega (arith, room_there c.args.places.now c.args.out.now c.wire_parent.ensures c.requires.wire_ready.above)
 
 pub slice_bounds-join_record-start : goal.slice_bounds-join_record-start
-slice_bounds-join_record-start c = omega (arith, (let it : (get_or c.args.places.now c.wire_parent.result 0) + record_bytes ≤ length c.args.out.now = omega (arith, (let it : (get_or c.args.places.now c.wire_parent.result 0) ≡ get_or c.args.places.now (wire_parent c.args.wires.now c.args.i) 0 = ap (λ (x : ℕ). get_or c.args.places.now x 0) c.wire_parent.ensures in it), c.requires.wire_ready.above) in it))
+slice_bounds-join_record-start c = omega (arith, room_there c.args.places.now c.args.out.now c.wire_parent.ensures c.requires.wire_ready.above)
 
 pub join_record-requires : goal.join_record-requires
-join_record-requires c = (
-  part-long ((get_or c.args.places.now c.wire_parent.result 0)) record_bytes c.args.out.now ((let it : (get_or c.args.places.now c.wire_parent.result 0) + record_bytes ≤ length c.args.out.now = omega (arith, (let it : (get_or c.args.places.now c.wire_parent.result 0) ≡ get_or c.args.places.now (wire_parent c.args.wires.now c.args.i) 0 = ap (λ (x : ℕ). get_or c.args.places.now x 0) c.wire_parent.ensures in it), c.requires.wire_ready.above) in it)),
-  part_record ((get_or c.args.places.now c.wire_parent.result 0)) _ c.args.out.now ((let it : (get_or c.args.places.now c.wire_parent.result 0) ≡ get_or c.args.places.now (wire_parent c.args.wires.now c.args.i) 0 = ap (λ (x : ℕ). get_or c.args.places.now x 0) c.wire_parent.ensures in it)) c.requires.wire_ready.stands,
-  c.weight_of-end_weight.ensures.1,
-  omega arith,
-)
+join_record-requires c =
+    let a = c.args in
+    let above = get_or a.places.now c.wire_parent.result 0 in (
+      part-long above record_bytes a.out.now (room_there a.places.now a.out.now c.wire_parent.ensures c.requires.wire_ready.above),
+      part_record above _ a.out.now (same_place a.places.now c.wire_parent.ensures) c.requires.wire_ready.stands,
+      c.weight_of-end_weight.ensures.1,
+      omega arith,
+    )
 
 pub start_piece-behind-requires : goal.start_piece-behind-requires
-start_piece-behind-requires c = (
-  c.requires.wire_ready.small,
-  c.requires.wire_ready.room,
-  omega (arith, c.node_flags.ensures, c.requires.wire_ready.flags),
-  omega (arith, (let it : length ((let out = c.args.out.now in take ((get_or c.args.places.now c.wire_parent.result 0)) out ++ (c.join_record.new.rest ++ drop (length out - (get_or c.args.places.now c.wire_parent.result 0)) (drop ((get_or c.args.places.now c.wire_parent.result 0)) out)))) ≡ length c.args.out.now = ap length ((let it : let a = c.args in (let out = c.args.out.now in take ((get_or c.args.places.now c.wire_parent.result 0)) out ++ (c.join_record.new.rest ++ drop (length out - (get_or c.args.places.now c.wire_parent.result 0)) (drop ((get_or c.args.places.now c.wire_parent.result 0)) out))) ≡ joined_above a.limit (get_or a.places.now (wire_parent a.wires.now a.i) 0) ((wire_length a.nodes.now a.wires.now a.i - entry_position a.jumpers.now (a.end - 1)) * wire_factor a.wires.now a.i) 0 (2 ^ (wire_layer a.wires.now a.i - 1)) a.out.now = let a = c.args in placed-joined a.limit ((get_or c.args.places.now c.wire_parent.result 0)) c.weight_of-end_weight.result 0 c.layer_mask-mask.result _ _ _ _ a.out.now c.join_record.new.rest ((let it : (get_or c.args.places.now c.wire_parent.result 0) ≡ get_or c.args.places.now (wire_parent c.args.wires.now c.args.i) 0 = ap (λ (x : ℕ). get_or c.args.places.now x 0) c.wire_parent.ensures in it)) ((let it : let a = c.args in c.weight_of-end_weight.result ≡ (wire_length a.nodes.now a.wires.now a.i - entry_position a.jumpers.now (a.end - 1)) * wire_factor a.wires.now a.i = let a = c.args in let f = wire_factor a.wires.now a.i in let p = c.entry_position-last in c.weight_of-end_weight.ensures.0 ∙ (ap (λ (x : ℕ). (x - p.result) * f) c.length_of.ensures.0 ∙ ap (λ (x : ℕ). (wire_length a.nodes.now a.wires.now a.i - x) * f) p.ensures) in it)) refl c.layer_mask-mask.ensures c.join_record.ensures in it)) ∙ joined_above_length c.args.limit _ _ _ _ c.args.out.now c.requires.wire_ready.above in it), c.requires.entries_ready.some, c.requires.e_in_bounds),
-)
+start_piece-behind-requires c =
+    let a = c.args in
+    let buffer =
+    above-joined a.limit a.nodes.now a.wires.now a.jumpers.now a.places.now a.i a.end a.out.now c.join_record.new.rest
+    c.wire_parent.ensures c.length_of.ensures.0 c.entry_position-last.ensures c.weight_of-end_weight.ensures.0 c.layer_mask-mask.ensures c.join_record.ensures in
+    let long = ap length buffer ∙ joined_above_length a.limit _ _ _ _ a.out.now c.requires.wire_ready.above in
+    let r = c.requires.wire_ready in
+    (r.small, r.room, omega (arith, c.node_flags.ensures, r.flags), omega (arith, long, c.requires.entries_ready.some, c.requires.e_in_bounds))
 
 pub wire_factor-requires : goal.wire_factor-requires
 wire_factor-requires c = let r = c.requires.wire_ready in (r.numbered, r.stored)
@@ -57,11 +71,17 @@ wire_layer-requires c = let r = c.requires.wire_ready in (r.numbered, r.stored)
 
 pub write_stretches-requires : goal.write_stretches-requires
 write_stretches-requires c =
+    let a = c.args in
+    let buffer =
+    above-joined a.limit a.nodes.now a.wires.now a.jumpers.now a.places.now a.i a.end a.out.now c.join_record.new.rest
+    c.wire_parent.ensures c.length_of.ensures.0 c.entry_position-last.ensures c.weight_of-end_weight.ensures.0 c.layer_mask-mask.ensures c.join_record.ensures in
+    let long = ap length buffer ∙ joined_above_length a.limit _ _ _ _ a.out.now c.requires.wire_ready.above in
     let r = c.requires.wire_ready in
-    let t = c.requires.entries_ready in record {
+    let t = c.requires.entries_ready in
+    record {
       i_lt_most_nodes = (r.small, omega (arith, t.some), t.inside, omega (arith, c.wire_layer.ensures, r.low), omega (arith, c.wire_layer.ensures, r.high));
       by_index = t.rise;
-      e_in_bounds = omega (arith, t.some, c.requires.e_in_bounds, c.start_piece-behind.ensures.0, c.start_piece-behind.auto.out, (let it : length ((let out = c.args.out.now in take ((get_or c.args.places.now c.wire_parent.result 0)) out ++ (c.join_record.new.rest ++ drop (length out - (get_or c.args.places.now c.wire_parent.result 0)) (drop ((get_or c.args.places.now c.wire_parent.result 0)) out)))) ≡ length c.args.out.now = ap length ((let it : let a = c.args in (let out = c.args.out.now in take ((get_or c.args.places.now c.wire_parent.result 0)) out ++ (c.join_record.new.rest ++ drop (length out - (get_or c.args.places.now c.wire_parent.result 0)) (drop ((get_or c.args.places.now c.wire_parent.result 0)) out))) ≡ joined_above a.limit (get_or a.places.now (wire_parent a.wires.now a.i) 0) ((wire_length a.nodes.now a.wires.now a.i - entry_position a.jumpers.now (a.end - 1)) * wire_factor a.wires.now a.i) 0 (2 ^ (wire_layer a.wires.now a.i - 1)) a.out.now = let a = c.args in placed-joined a.limit ((get_or c.args.places.now c.wire_parent.result 0)) c.weight_of-end_weight.result 0 c.layer_mask-mask.result _ _ _ _ a.out.now c.join_record.new.rest ((let it : (get_or c.args.places.now c.wire_parent.result 0) ≡ get_or c.args.places.now (wire_parent c.args.wires.now c.args.i) 0 = ap (λ (x : ℕ). get_or c.args.places.now x 0) c.wire_parent.ensures in it)) ((let it : let a = c.args in c.weight_of-end_weight.result ≡ (wire_length a.nodes.now a.wires.now a.i - entry_position a.jumpers.now (a.end - 1)) * wire_factor a.wires.now a.i = let a = c.args in let f = wire_factor a.wires.now a.i in let p = c.entry_position-last in c.weight_of-end_weight.ensures.0 ∙ (ap (λ (x : ℕ). (x - p.result) * f) c.length_of.ensures.0 ∙ ap (λ (x : ℕ). (wire_length a.nodes.now a.wires.now a.i - x) * f) p.ensures) in it)) refl c.layer_mask-mask.ensures c.join_record.ensures in it)) ∙ joined_above_length c.args.limit _ _ _ _ c.args.out.now c.requires.wire_ready.above in it));
+      e_in_bounds = omega (arith, t.some, c.requires.e_in_bounds, c.start_piece-behind.ensures.0, c.start_piece-behind.auto.out, long);
     }
 
 pub returns : goal.returns
@@ -70,7 +90,10 @@ returns c =
     let a = c.args in
     let w = wire_factor a.wires.now a.i in
     let t = c.requires.entries_ready in
-    let b = (let it : length ((let out = c.args.out.now in take ((get_or c.args.places.now c.wire_parent.result 0)) out ++ (c.join_record.new.rest ++ drop (length out - (get_or c.args.places.now c.wire_parent.result 0)) (drop ((get_or c.args.places.now c.wire_parent.result 0)) out)))) ≡ length c.args.out.now = ap length ((let it : let a = c.args in (let out = c.args.out.now in take ((get_or c.args.places.now c.wire_parent.result 0)) out ++ (c.join_record.new.rest ++ drop (length out - (get_or c.args.places.now c.wire_parent.result 0)) (drop ((get_or c.args.places.now c.wire_parent.result 0)) out))) ≡ joined_above a.limit (get_or a.places.now (wire_parent a.wires.now a.i) 0) ((wire_length a.nodes.now a.wires.now a.i - entry_position a.jumpers.now (a.end - 1)) * wire_factor a.wires.now a.i) 0 (2 ^ (wire_layer a.wires.now a.i - 1)) a.out.now = let a = c.args in placed-joined a.limit ((get_or c.args.places.now c.wire_parent.result 0)) c.weight_of-end_weight.result 0 c.layer_mask-mask.result _ _ _ _ a.out.now c.join_record.new.rest ((let it : (get_or c.args.places.now c.wire_parent.result 0) ≡ get_or c.args.places.now (wire_parent c.args.wires.now c.args.i) 0 = ap (λ (x : ℕ). get_or c.args.places.now x 0) c.wire_parent.ensures in it)) ((let it : let a = c.args in c.weight_of-end_weight.result ≡ (wire_length a.nodes.now a.wires.now a.i - entry_position a.jumpers.now (a.end - 1)) * wire_factor a.wires.now a.i = let a = c.args in let f = wire_factor a.wires.now a.i in let p = c.entry_position-last in c.weight_of-end_weight.ensures.0 ∙ (ap (λ (x : ℕ). (x - p.result) * f) c.length_of.ensures.0 ∙ ap (λ (x : ℕ). (wire_length a.nodes.now a.wires.now a.i - x) * f) p.ensures) in it)) refl c.layer_mask-mask.ensures c.join_record.ensures in it)) ∙ joined_above_length c.args.limit _ _ _ _ c.args.out.now c.requires.wire_ready.above in it) in
+    let buffer =
+    above-joined a.limit a.nodes.now a.wires.now a.jumpers.now a.places.now a.i a.end a.out.now c.join_record.new.rest
+    c.wire_parent.ensures c.length_of.ensures.0 c.entry_position-last.ensures c.weight_of-end_weight.ensures.0 c.layer_mask-mask.ensures c.join_record.ensures in
+    let long = ap length buffer ∙ joined_above_length a.limit _ _ _ _ a.out.now c.requires.wire_ready.above in
     let q = fields-length a.i 0 (entry_position a.jumpers.now a.e * w) (with_harm a.limit (entry_position a.jumpers.now a.e * w) (node_flags a.nodes.now a.i)) (2 ^ (wire_layer a.wires.now a.i - 1)) in
     let r = stretches-length a.jumpers.now a.i w (wire_layer a.wires.now a.i) a.e (a.end - a.e - 1) in (
       omega (arith, z.ensures.0, c.start_piece-behind.ensures.0, t.some),
@@ -78,6 +101,6 @@ returns c =
       behind-place a.at c.start_piece-behind.result
           (same-fields a.limit a.i (c.weight_of.ensures.0 ∙ ap (λ (x : ℕ). x * w) c.entry_position-first.ensures) c.node_flags.ensures c.layer_mask-mask.ensures)
           (same-stretches a.jumpers.now a.i a.e (a.end - a.e - 1) c.wire_factor.ensures c.wire_layer.ensures)
-          ((let it : let a = c.args in (let out = c.args.out.now in take ((get_or c.args.places.now c.wire_parent.result 0)) out ++ (c.join_record.new.rest ++ drop (length out - (get_or c.args.places.now c.wire_parent.result 0)) (drop ((get_or c.args.places.now c.wire_parent.result 0)) out))) ≡ joined_above a.limit (get_or a.places.now (wire_parent a.wires.now a.i) 0) ((wire_length a.nodes.now a.wires.now a.i - entry_position a.jumpers.now (a.end - 1)) * wire_factor a.wires.now a.i) 0 (2 ^ (wire_layer a.wires.now a.i - 1)) a.out.now = let a = c.args in placed-joined a.limit ((get_or c.args.places.now c.wire_parent.result 0)) c.weight_of-end_weight.result 0 c.layer_mask-mask.result _ _ _ _ a.out.now c.join_record.new.rest ((let it : (get_or c.args.places.now c.wire_parent.result 0) ≡ get_or c.args.places.now (wire_parent c.args.wires.now c.args.i) 0 = ap (λ (x : ℕ). get_or c.args.places.now x 0) c.wire_parent.ensures in it)) ((let it : let a = c.args in c.weight_of-end_weight.result ≡ (wire_length a.nodes.now a.wires.now a.i - entry_position a.jumpers.now (a.end - 1)) * wire_factor a.wires.now a.i = let a = c.args in let f = wire_factor a.wires.now a.i in let p = c.entry_position-last in c.weight_of-end_weight.ensures.0 ∙ (ap (λ (x : ℕ). (x - p.result) * f) c.length_of.ensures.0 ∙ ap (λ (x : ℕ). (wire_length a.nodes.now a.wires.now a.i - x) * f) p.ensures) in it)) refl c.layer_mask-mask.ensures c.join_record.ensures in it)) (omega (arith, c.start_piece-behind.ensures.0, q)) (omega (arith, t.some, c.requires.e_in_bounds, q, r, b, ap length ((let it : let a = c.args in (let out = c.args.out.now in take ((get_or c.args.places.now c.wire_parent.result 0)) out ++ (c.join_record.new.rest ++ drop (length out - (get_or c.args.places.now c.wire_parent.result 0)) (drop ((get_or c.args.places.now c.wire_parent.result 0)) out))) ≡ joined_above a.limit (get_or a.places.now (wire_parent a.wires.now a.i) 0) ((wire_length a.nodes.now a.wires.now a.i - entry_position a.jumpers.now (a.end - 1)) * wire_factor a.wires.now a.i) 0 (2 ^ (wire_layer a.wires.now a.i - 1)) a.out.now = let a = c.args in placed-joined a.limit ((get_or c.args.places.now c.wire_parent.result 0)) c.weight_of-end_weight.result 0 c.layer_mask-mask.result _ _ _ _ a.out.now c.join_record.new.rest ((let it : (get_or c.args.places.now c.wire_parent.result 0) ≡ get_or c.args.places.now (wire_parent c.args.wires.now c.args.i) 0 = ap (λ (x : ℕ). get_or c.args.places.now x 0) c.wire_parent.ensures in it)) ((let it : let a = c.args in c.weight_of-end_weight.result ≡ (wire_length a.nodes.now a.wires.now a.i - entry_position a.jumpers.now (a.end - 1)) * wire_factor a.wires.now a.i = let a = c.args in let f = wire_factor a.wires.now a.i in let p = c.entry_position-last in c.weight_of-end_weight.ensures.0 ∙ (ap (λ (x : ℕ). (x - p.result) * f) c.length_of.ensures.0 ∙ ap (λ (x : ℕ). (wire_length a.nodes.now a.wires.now a.i - x) * f) p.ensures) in it)) refl c.layer_mask-mask.ensures c.join_record.ensures in it))))
+          buffer (omega (arith, c.start_piece-behind.ensures.0, q)) (omega (arith, t.some, c.requires.e_in_bounds, q, r, long, ap length buffer))
           c.start_piece-behind.ensures.2 z.ensures.1,
     )

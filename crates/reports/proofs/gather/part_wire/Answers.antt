@@ -7,7 +7,6 @@ use native.Mathlib.Omega.{arith}
 use lib.ListN.{get_or}
 use Rattle.net.specs.Limits.{wire_weight_bound}
 use Rattle.reports.specs.Gathering.{Added}
-use Rattle.reports.specs.ListRight.{AtMost}
 use Rattle.reports.specs.ListRights.{added-small, at_more}
 use Rattle.reports.proofs.gather.part_wire.Goals as goal
 
@@ -33,7 +32,10 @@ pub add_steps-requires-2 : goal.add_steps-requires-2
 add_steps-requires-2 c =
     let a = at-same c.args.lowest.now c.wire_parent.ensures c.requires.wire_ready.above in
     let len = c.length_of-len in
-    let most = (let it : AtMost (c.args.i * (2 * wire_weight_bound) + wire_weight_bound) c.add_steps.new.weight = let len = c.length_of-len in added-small (c.args.i * (2 * wire_weight_bound)) c.args.i c.args.first c.wire_factor-factor.result c.wire_layer-layer.result c.requires.wire_ready.light c.add_steps.ensures (omega (arith, c.requires.first_bound.0, len.ensures.0, len.ensures.1)) (omega arith) in it) (get_or c.args.lowest.now c.wire_parent.result 0) in record {
+    let between =
+    added-small (c.args.i * (2 * wire_weight_bound)) c.args.i c.args.first c.wire_factor-factor.result c.wire_layer-layer.result c.requires.wire_ready.light c.add_steps.ensures
+    (omega (arith, c.requires.first_bound.0, len.ensures.0, len.ensures.1)) (omega arith) in
+    let most = between (get_or c.args.lowest.now c.wire_parent.result 0) in record {
       h_in_bounds = (omega (arith, a, c.requires.wire_ready.room.weights, c.add_steps.auto.weight), omega (arith, a, c.requires.wire_ready.room.layered, c.add_steps.auto.layers));
       le_layer = (omega (arith, c.wire_layer-layer.ensures, c.requires.wire_ready.low), omega (arith, c.wire_layer-layer.ensures, c.requires.wire_ready.high));
       steps_in_bounds = (omega (arith, len.ensures.1), omega (arith, most, c.requires.wire_ready.small));
@@ -42,6 +44,9 @@ add_steps-requires-2 c =
 pub returns : goal.returns
 returns c =
     let len = c.length_of-len in
+    let between =
+    added-small (c.args.i * (2 * wire_weight_bound)) c.args.i c.args.first c.wire_factor-factor.result c.wire_layer-layer.result c.requires.wire_ready.light c.add_steps.ensures
+    (omega (arith, c.requires.first_bound.0, len.ensures.0, len.ensures.1)) (omega arith) in
     let factor = c.wire_factor-factor in (
       record {
         named = rw c.node_flags.ensures at c.name_node.ensures;
@@ -53,5 +58,5 @@ returns c =
             c.add_steps-2.ensures;
       },
       at_more (c.args.i * (2 * wire_weight_bound) + wire_weight_bound + wire_weight_bound) ((c.args.i + 1) * (2 * wire_weight_bound)) c.add_steps-2.new.weight (omega arith)
-          (added-small (c.args.i * (2 * wire_weight_bound) + wire_weight_bound) _ (len.result - c.args.last) factor.result c.wire_layer-layer.result ((let it : AtMost (c.args.i * (2 * wire_weight_bound) + wire_weight_bound) c.add_steps.new.weight = let len = c.length_of-len in added-small (c.args.i * (2 * wire_weight_bound)) c.args.i c.args.first c.wire_factor-factor.result c.wire_layer-layer.result c.requires.wire_ready.light c.add_steps.ensures (omega (arith, c.requires.first_bound.0, len.ensures.0, len.ensures.1)) (omega arith) in it)) c.add_steps-2.ensures (omega (arith, len.ensures.1)) (omega arith)),
+          (added-small (c.args.i * (2 * wire_weight_bound) + wire_weight_bound) _ (len.result - c.args.last) factor.result c.wire_layer-layer.result between c.add_steps-2.ensures (omega (arith, len.ensures.1)) (omega arith)),
     )
