@@ -34,11 +34,11 @@ fuzz: library
 library: tools
 	@mkdir -p target
 	@echo "proving and building; the first time takes some minutes"
-	@rt staticlib antenna > target/library.log 2>&1 || { tail -n 30 target/library.log; exit 1; }
+	@tests/library staticlib > target/library.log 2>&1 || { tail -n 30 target/library.log; exit 1; }
 	@$(CARGO) command/Cargo.toml
 
 programs: library
-	@rt check report repair > target/programs.log 2>&1 || { tail -n 30 target/programs.log; exit 1; }
+	@tests/library > target/programs.log 2>&1 || { tail -n 30 target/programs.log; exit 1; }
 
 install: library programs
 	@install -d $(DESTDIR)$(PREFIX)/include $(DESTDIR)$(PREFIX)/lib/pkgconfig $(DESTDIR)$(PREFIX)/bin

@@ -5,6 +5,8 @@ What is defined in crates/*/specs is respelled: a function, a lemma, a field or 
 `wire_bytes`), types and modules stay in camel case; a dash stays only where it joins two names (`length-gather`), a plain word
 is added with `_` (`nodes-at` is `nodes_at`). Names of src/, of generated goals, strings and inputs stay.
 `respell.py --list` prints the old and the new names, and those that fall together, and changes nothing.
+The names that it made on the repository stand in tools/respelled.txt, old and new; with that file there they are taken from it,
+so that an earlier commit gets the same spelling. Other names follow the rules.
 """
 import collections
 import glob
@@ -80,6 +82,17 @@ def respelling():
                 result += ("-" if two or symbol else "_") + right
         if result != name:
             new[name] = result
+    try:
+        made = dict(line.split() for line in open("tools/respelled.txt"))
+    except FileNotFoundError:
+        made = {}
+    for name in all_names:
+        if name in made:
+            new[name] = made[name]
+        elif made and new.get(name, name) in made.values():
+            new[name] = new.get(name, name) + "_lem"
+    if made:
+        return all_names, fields, new
     # of those that fall together the function keeps the name, the lemma or the field gets `_lem`
     for result, group in clashes(all_names, new).items():
         camel = [n for n in group if re.search(r"[a-z0-9][A-Z]", n) and "-" not in n]

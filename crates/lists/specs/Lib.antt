@@ -1,4 +1,5 @@
 pub mod EntriesChecked
+pub mod EntriesByWire
 pub mod Entries
 pub mod EntriesOfWire
 pub mod EntriesFew

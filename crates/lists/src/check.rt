@@ -1,11 +1,10 @@
-// Refusals 12 to 14.
-ghost use Rattle.std.specs.Prelude.{◌≡◌, ◌<◌};
-ghost use Rattle.net.specs.Net.{wire_length};
+// Refusals 12 to 14: on a whole list, and 13 and 14 on one point.
+ghost use Rattle.std.specs.Prelude.{◌≡◌, ◌||◌, ◌-◌, ◌<◌, eqb};
 ghost use Rattle.net.specs.Refusal.{none, net_refusal};
 ghost use Rattle.net.specs.Stage.{stage_of};
-ghost use Rattle.points.specs.Cuttable.{Checked};
-ghost use Rattle.pieces.specs.JumperList.{list_refusal};
-ghost use Rattle.lists.specs.EntriesChecked.{WiresChecked, present_length, position_refusal};
+ghost use Rattle.pieces.specs.Legal.{after};
+ghost use Rattle.pieces.specs.JumperList.{entry_count, point_refusal, entry_refusal, list_refusal};
+ghost use Rattle.lists.specs.EntriesChecked.{WiresChecked, lies_inside};
 
 use crate::entries::{entry_count, entry_position, entry_wire};
 use net::Refusal;
@@ -14,38 +13,57 @@ use net::fields::{is_present, node_count};
 use net::layout::ENTRY_BYTES;
 use points::{is_barred, length_of};
 
-// The length of wire i, or 0 where there is no such wire or the stage does not have it.
-fn present_length(stage: u8, nodes: &[u8], wires: &[u8], i: usize) -> u32
-    requires { WiresChecked nodes.now wires.now }
-    ensures { result ≡ present_length nodes.now wires.now stage i }
+// Entry e stands after the one before, if there is one.
+fn is_after(list: &[u8], e: usize) -> bool
+    requires { e < entry_count list.now }
+    ensures { result ≡ (eqb e 0 || after list.now (e - 1) e) }
 {
-    if node_count(nodes) <= i {
-        return 0;
+    if e == 0 {
+        return true;
     }
-    if !is_present(stage, wires, i) {
-        return 0;
+    let before = entry_wire(list, e - 1);
+    let wire = entry_wire(list, e);
+    if before < wire {
+        return true;
     }
-    length_of(nodes, wires, i)
+    if wire < before {
+        return false;
+    }
+    entry_position(list, e - 1) < entry_position(list, e)
 }
 
-// Position t of wire i; `length` is that of the wire, or 0 where the stage does not have it: 13, 14.
-fn position_refusal(
+// There is a wire i, the stage has it, and position t lies inside it.
+fn lies_inside(stage: u8, nodes: &[u8], wires: &[u8], i: usize, t: u32) -> bool
+    requires { WiresChecked nodes.now wires.now }
+    ensures { result ≡ lies_inside nodes.now wires.now stage i t }
+{
+    if node_count(nodes) <= i {
+        return false;
+    }
+    if !is_present(stage, wires, i) {
+        return false;
+    }
+    if t == 0 {
+        return false;
+    }
+    t < length_of(nodes, wires, i)
+}
+
+// Position t of wire i: 13, 14.
+pub fn point_refusal(
     version: u16,
+    stage: u8,
     nodes: &[u8],
     wires: &[u8],
     obstacles: &[u8],
     i: usize,
-    length: u32,
     t: u32,
     place: u64,
 ) -> Refusal
-    requires { 0 < length → Checked nodes.now wires.now i × (length ≡ wire_length nodes.now wires.now i) }
-    ensures { result ≡ position_refusal version nodes.now wires.now obstacles.now i length t place }
+    requires { net_refusal version nodes.now wires.now obstacles.now ≡ none }
+    ensures { result ≡ point_refusal (stage_of version nodes.now wires.now obstacles.now stage) i t place }
 {
-    if t == 0 {
-        return refused(13, place);
-    }
-    if length <= t {
+    if !lies_inside(stage, nodes, wires, i, t) {
         return refused(13, place);
     }
     if is_barred(version, nodes, wires, obstacles, i, t) {
@@ -54,8 +72,29 @@ fn position_refusal(
     none()
 }
 
-// 12 on the length of a list, then each entry in order: 12, then 13 and 14 on its point. Of the entry before, `wire` is its wire, `from` the position behind it
-// and `length` the length of its wire, which is computed once for entries in a row on one wire.
+// Entry e: 12, then 13 and 14 on its point.
+fn entry_refusal(
+    version: u16,
+    stage: u8,
+    nodes: &[u8],
+    wires: &[u8],
+    obstacles: &[u8],
+    list: &[u8],
+    e: usize,
+) -> Refusal
+    requires obstacles_value { net_refusal version nodes.now wires.now obstacles.now ≡ none }
+    requires e_bound { e < entry_count list.now }
+    ensures { result ≡ entry_refusal (stage_of version nodes.now wires.now obstacles.now stage) list.now e }
+{
+    if !is_after(list, e) {
+        return refused(12, e as u64);
+    }
+    let i = entry_wire(list, e);
+    let t = entry_position(list, e);
+    point_refusal(version, stage, nodes, wires, obstacles, i, t, e as u64)
+}
+
+// 12 on the length of a list, then each entry in order.
 pub fn list_refusal(
     version: u16,
     stage: u8,
@@ -71,27 +110,12 @@ pub fn list_refusal(
         return refused(12, 0);
     }
     let count = entry_count(list);
-    let mut wire = 0;
-    let mut from = 0;
-    let mut length = 0;
     let mut e = 0;
     while e < count {
-        let i = entry_wire(list, e);
-        let t = entry_position(list, e);
-        if i != wire {
-            if i < wire {
-                return refused(12, e as u64);
-            }
-            wire = i;
-            length = present_length(stage, nodes, wires, i);
-        } else if t < from {
-            return refused(12, e as u64);
-        }
-        let r = position_refusal(version, nodes, wires, obstacles, i, length, t, e as u64);
+        let r = entry_refusal(version, stage, nodes, wires, obstacles, list, e);
         if r.number != 0 {
             return r;
         }
-        from = t + 1;
         e += 1;
     }
     none()

@@ -1,6 +1,8 @@
-// Jumper lists: their entries, 12 to 14, the entries of a wire.
+// Jumper lists: their entries, 12 to 14 on a list, 13 and 14 on one point, the entries of a wire.
 #![tactic(auto)]
 
+pub mod by_wire;
 pub mod check;
+pub mod doubling;
 pub mod entries;
 pub mod wire;

@@ -1,11 +1,11 @@
 -- The bytes of a piece record as its writers leave them, part after part.
 -- Assumes nothing.
 use Rattle.std.specs.Prelude.{ℕ, ◌+◌, ◌-◌, ◌%◌, ◌≤◌, ◌≡◌, refl, List, ◌∷◌, ◌++◌, length, take, drop, get_or}
-use Rattle.std.proofs.Common.{sym, ◌∙◌, ap, arith, take-append-drop, take-suc, drop-cons, drop-drop}
+use Rattle.std.proofs.Common.{sym, ◌∙◌, ap, arith, take-append-drop, take-suc, drop-cons, drop-drop, drop_at, append_assoc, length-append, length-drop, length-take-le, get_or-drop}
 use Rattle.std.proofs.lemmas.List.Edits.{sets}
 use Rattle.std.specs.Int.Bits.{bit_or}
 use Rattle.laws.specs.Bytes.{le16, le32, bytes16}
-use Rattle.laws.specs.Numbers.{Bytes, bytes16-le16}
+use Rattle.laws.specs.Numbers.{Bytes, bytes16-le16, bytes_drop}
 use Rattle.laws.specs.Place.{place, place-length, place_sets, place-more, part-all, place-part}
 use Rattle.net.specs.Layout.{record_bytes}
 use Rattle.records.specs.Record.{weight_part, layers_part, fields, with_harm, NodeRecord, joined}
@@ -26,6 +26,12 @@ module _ (r : List ℕ) (h : record_bytes ≤ length r) (s : NodeRecord r) where
   name_stays : take 3 r ≡ get_or r 0 0 ∷ bytes16 0
   name_stays = take-suc r 2 0 (omega arith) ∙ rw (take-suc r 1 0 (omega arith), take-suc r 0 0 (omega arith), s.low, s.high)
 
+  layered_behind : Bytes (drop 8 r) → drop 8 r ≡ layers_part (le16 r 8) ++ drop record_bytes r
+  layered_behind b =
+      let q : take 2 (drop 8 r) ≡ bytes16 (le16 r 8) =
+      bytes16-le16 (drop 8 r) b 0 (let z = length-drop 8 r in omega arith) ∙ ap bytes16 (rw (get_or-drop 8 r 0 0, get_or-drop 8 r 1 0) refl) in
+      sym (take-append-drop 2 (drop 8 r)) ∙ rw (q, drop-drop 2 8 r, drop-cons r 10 0 (omega arith), drop-cons r 11 0 (omega arith), s.count, s.lowest)
+
   layered : Bytes r → drop 8 r ≡ layers_part (le16 r 8) ++ drop record_bytes r
   layered b =
       sym (take-append-drop 2 (drop 8 r))
@@ -42,6 +48,17 @@ module _ (r : List ℕ) (h : record_bytes ≤ length r) (s : NodeRecord r) where
     pub joined-weight : Bytes r → bit_or (le16 r 8) layers ≡ le16 r 8 → place 3 (weight_part heavy flagged) r ≡ joined limit weight flags layers r ++ drop record_bytes r
     unfolding joined fields
     joined-weight b e = rw (name_stays, layered b, e, f, w)
+
+    -- the same where the record's items are known to be bytes only after its weight was written
+    pub joined-weight_after : Bytes (place 3 (weight_part heavy flagged) r) → bit_or (le16 r 8) layers ≡ le16 r 8 →
+        place 3 (weight_part heavy flagged) r ≡ joined limit weight flags layers r ++ drop record_bytes r
+    unfolding joined fields
+    joined-weight_after b e =
+        let behind : drop 8 (place 3 (weight_part heavy flagged) r) ≡ drop 8 r =
+        ap (drop 8) (sym (append_assoc (take 3 r) (weight_part heavy flagged) (drop 8 r)))
+        ∙ drop_at (take 3 r ++ weight_part heavy flagged) (drop 8 r) 8
+        (let a = length-append (take 3 r) (weight_part heavy flagged) in let q = length-take-le 3 r (omega arith) in omega arith) in
+        rw (name_stays, layered_behind (rw behind at (bytes_drop 8 (place 3 (weight_part heavy flagged) r) b)), e, f, w)
 
 pub fields-length : (number position weight flags layers : ℕ) → length (fields number position weight flags layers) ≡ record_bytes
 unfolding fields

@@ -25,7 +25,7 @@ use Rattle.records.specs.WireSums.{flag, steps_in, weight_below, flags_below, la
 use Rattle.records.specs.NodeRecords.{layer-mask, two-flags}
 
 -- masks joined under a test
-or-test : (n : ℕ) (f : ℕ → Bool) (t : Bool) (g : ℕ → Bool) → bit_or (mask n f) (χ t (mask n g)) ≡ mask n (λ b. f b || (t && g b))
+pub or-test : (n : ℕ) (f : ℕ → Bool) (t : Bool) (g : ℕ → Bool) → bit_or (mask n f) (χ t (mask n g)) ≡ mask n (λ b. f b || (t && g b))
 or-test n f t g = ap (bit_or (mask n f)) (sym (mask-test n t g)) ∙ mask-or n f (λ b. t && g b)
 
 -- the flags of a node, bit by bit

@@ -8,7 +8,7 @@ ghost use Rattle.records.specs.ListRight.{ListAccepted, AtAccepted};
 ghost use Rattle.records.specs.Held.{RecordsFit};
 
 use crate::wire::take_wire;
-use lists::wire::entries_end;
+use lists::doubling::entries_end;
 use net::fields::node_count;
 use net::layout::MOST_NODES;
 

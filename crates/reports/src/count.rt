@@ -1,11 +1,12 @@
 // The number of records: nodes less present wires, and one for each jumper.
-ghost use Rattle.std.specs.Prelude.{◌≡◌, ◌&&◌, ◌*◌, ◌+◌, ◌≤◌, length, ltb, leb};
+ghost use Rattle.std.specs.Prelude.{◌≡◌, List, ◌&&◌, ℕ, ◌*◌, ◌+◌, ◌≤◌, length, ltb, leb};
 ghost use Rattle.laws.specs.Sum.{χ, sum};
 ghost use Rattle.net.specs.Layout.{wire_bytes, most_nodes};
 ghost use Rattle.net.specs.Limits.{length_bound};
 ghost use Rattle.net.specs.Net.{wire_layer};
+ghost use Rattle.net.specs.Stage.{stage_of};
 ghost use Rattle.reports.specs.Promise.{piece_count};
-ghost use Rattle.records.specs.ListRight.{ListAccepted, AtAccepted};
+ghost use Rattle.records.specs.ListRight.{ListRight, ListAccepted};
 
 use lists::entries::entry_count;
 use net::fields::{is_present, node_count};
@@ -29,7 +30,7 @@ fn present_count(stage: u8, wires: &[u8], n: usize) -> usize
 // The number of pieces.
 pub fn piece_count(stage: u8, nodes: &[u8], wires: &[u8], jumpers: &[u8]) -> usize
     requires { ListAccepted nodes.now wires.now stage jumpers.now }
-    ensures { AtAccepted nodes.now wires.now stage jumpers.now (λ s. result ≡ piece_count s jumpers.now)
+    ensures { ((v : ℕ) (os : List ℕ) → ListRight v nodes.now wires.now stage jumpers.now os → result ≡ piece_count (stage_of v nodes.now wires.now os stage) jumpers.now)
         × (result ≤ most_nodes * (length_bound + 1)) }
 {
     let n = node_count(nodes);

@@ -1,5 +1,9 @@
-// The piece report: what the call tries in order, then the records of all pieces.
+// The piece report: what the call tries in order, then its work over an accepted net with an accepted jumper list.
 #![tactic(auto)]
 
 pub mod count;
+mod gather;
+pub mod one_pass;
+mod record;
 pub mod report;
+mod write;

@@ -1,14 +1,18 @@
-// The report on a net file at a stage.
-ghost use Rattle.std.specs.Prelude.{◌≡◌, length};
-ghost use Rattle.reports.specs.Promise.{report_answer, report_buffer};
+// The report on a net file at a stage, and its work.
+ghost use Rattle.std.specs.Prelude.{◌≡◌, List, ℕ, length};
+ghost use Rattle.net.specs.Stage.{stage_of};
+ghost use Rattle.reports.specs.Promise.{pieces_buffer, report_answer, report_buffer};
+ghost use Rattle.records.specs.ListRight.{ListRight, ListAccepted};
+ghost use Rattle.reports.specs.ListRight.{RecordsFit};
 
 use crate::count::piece_count;
+use crate::gather::gather;
+use crate::write::write_records;
 use lists::check::list_refusal;
 use net::answers::{answered, none, refused};
 use net::call::call_refusal;
-use net::layout::RECORD_BYTES;
+use net::layout::{MOST_NODES, RECORD_BYTES};
 use net::{Answer, sections};
-use records::pass::write_records;
 
 // What is tried, in order: 1, 2 to 11 and 20, 12 to 14, 16; then the records are written.
 pub fn report(stage: u32, limit: u32, file: &[u8], jumpers: &[u8], out: &mut [u8]) -> Answer
@@ -38,6 +42,39 @@ pub fn report(stage: u32, limit: u32, file: &[u8], jumpers: &[u8], out: &mut [u8
     if out.len() < needed {
         return answered(refused(16, needed as u64), 0);
     }
-    write_records(k, limit, nodes, wires, jumpers, out);
+    write_pieces(k, limit, nodes, wires, jumpers, out);
     answered(none(), records as u64)
+}
+
+// The work on an accepted net with an accepted list, once 16 has been tried: the records of all pieces.
+pub fn write_pieces(
+    stage: u8,
+    limit: u32,
+    nodes: &[u8],
+    wires: &[u8],
+    jumpers: &[u8],
+    out: &mut [u8],
+)
+    requires list_accepted { ListAccepted nodes.now wires.now stage jumpers.now }
+    requires records_fit { RecordsFit nodes.now wires.now stage jumpers.now out.old }
+    ensures { (v : ℕ) (os : List ℕ) → ListRight v nodes.now wires.now stage jumpers.now os →
+        out.new ≡ pieces_buffer (stage_of v nodes.now wires.now os stage) limit jumpers.now out.old }
+{
+    let mut lowest = [0usize; MOST_NODES];
+    let mut weight = [0u64; MOST_NODES];
+    let mut flags = [0u8; MOST_NODES];
+    let mut layers = [0u16; MOST_NODES];
+    gather(
+        stage,
+        nodes,
+        wires,
+        jumpers,
+        &mut lowest,
+        &mut weight,
+        &mut flags,
+        &mut layers,
+    );
+    write_records(
+        stage, limit, nodes, wires, jumpers, &lowest, &weight, &flags, &layers, out,
+    );
 }

@@ -89,23 +89,22 @@ fn declared(line: &str) -> &str {
 
 /// The names of a `use` line, each with its module. Of the repository no line brings a whole module, another name, or an operator.
 fn names_used(line: &str) -> Vec<(String, String)> {
-    let ours = line.starts_with("Rattle·");
+    let ours = line.starts_with("Rattle.") && !line.starts_with("Rattle.std.");
     let Some((module, names)) = line.trim_end_matches([';', '}']).split_once(".{") else {
         assert!(!ours, "{line}");
         return Vec::new();
     };
     let names: Vec<&str> = names.split(", ").collect();
-    let plain = names.iter().all(|name| !name.contains([' ', '_']));
+    let plain = names.iter().all(|name| !name.contains([' ', '◌']));
     assert!(plain || !ours, "{line}");
     let names = names.iter();
     names.map(|&name| (name.into(), module.into())).collect()
 }
 
-/// `crates/net/specs/Net.antt` for `Rattle·net.specs.Net`. None for a module of the kit, and for a struct of the code.
+/// `crates/net/specs/Net.antt` for `Rattle.net.specs.Net`. None for a module of the kit, and for a struct of the code.
 fn file_of(module: &str) -> Option<String> {
-    let (home, file) = module.strip_prefix("Rattle·")?.split_once(".specs.")?;
-    let home = home.trim_end_matches("·specs");
-    (!file.starts_with("declared.")).then(|| format!("crates/{home}/specs/{file}.antt"))
+    let (home, file) = module.strip_prefix("Rattle.")?.split_once(".specs.")?;
+    (home != "std" && !file.starts_with("declared.")).then(|| format!("crates/{home}/specs/{file}.antt"))
 }
 
 impl Block {
@@ -209,7 +208,7 @@ impl Specs {
     ) -> Vec<Definition> {
         let mut found = Vec::new();
         for word in words {
-            assert!(!word.contains("Rattle·"), "{word} in {file}");
+            assert!(!word.contains("Rattle."), "{word} in {file}");
             let source = self.source(file);
             let home = match (source.at(word), source.used.get(word)) {
                 (Some(_), _) => Some(file.into()),
@@ -273,7 +272,7 @@ impl Specs {
 
     /// What the promise of each exported call rests on.
     pub fn of_promises(&mut self) -> BTreeMap<String, BTreeSet<Definition>> {
-        let text = std::fs::read_to_string(root().join("crates/antenna/src/lib.rt")).unwrap();
+        let text = std::fs::read_to_string(root().join("crates/antenna_c/src/lib.rt")).unwrap();
         let mut promises = BTreeMap::new();
         for export in text.split("pub extern \"C\" fn ").skip(1) {
             let (name, rest) = export.split_once('(').unwrap();

@@ -1,6 +1,5 @@
 -- `choice::choose` meets its contract: its array of options is long enough.
 -- Assumes nothing.
-use borrow.Author.Rules.{rules}
 use Rattle.choice.proofs.choose.Goals as goal
 
 pub choose_options-requires : goal.choose_options-requires

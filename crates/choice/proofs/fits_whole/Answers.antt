@@ -1,6 +1,5 @@
 -- `choice::fits_whole` meets its contract.
 -- Assumes nothing.
-use borrow.Author.Rules.{rules}
 use Rattle.choice.proofs.fits_whole.Goals as goal
 
 pub returns-then-any_ok : goal.returns-then-any_ok

@@ -3,7 +3,6 @@
 use native.Mathlib.Omega.{arith}
 use lib.ListN.{length-set}
 use lib.Seq.{sets-eq}
-use borrow.Author.Rules.{rules}
 use Rattle.listing.specs.Listing.{entry}
 use Rattle.listing.proofs.write_entry.Goals as goal
 

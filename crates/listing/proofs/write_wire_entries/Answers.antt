@@ -2,7 +2,6 @@
 -- Assumes nothing.
 use native.Mathlib.Omega.{arith}
 use lib.Dec.{ltb}
-use borrow.Author.Rules.{rules}
 use Rattle.laws.specs.Lists.{over_lent}
 use Rattle.listing.specs.Listing.{entry_if}
 use Rattle.listing.specs.ListingWriting.{length-entry_if}

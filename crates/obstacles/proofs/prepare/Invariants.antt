@@ -1,14 +1,10 @@
 -- `obstacles::prepare` meets its contract: the obstacles below `k` are written.
 -- Assumes nothing.
-use Prim.Native.Nat.{ℕ, ◌*◌, ◌-◌, ◌≤◌}
-use mathlib.Core.Path.{◌≡◌, refl, ◌∙◌, ap}
-use native.Mathlib.Omega.{arith}
+use Prim.Native.Nat.{◌-◌, ◌≤◌}
+use mathlib.Core.Path.{◌≡◌}
 use lib.ListN.{length}
-use borrow.Author.Rules.{rules}
 use Rattle.laws.specs.Lists.{over}
 use Rattle.laws.specs.Gather.{gather}
-use Rattle.laws.specs.Written.{written_next}
-use Rattle.net.specs.Layout.{newest, obstacle_bytes}
 use Rattle.obstacles.specs.Prepared.{prepared_record}
 use Rattle.obstacles.proofs.prepare.Given as goal
 

@@ -5,7 +5,6 @@ use mathlib.Core.Path.{◌∙◌}
 use native.Mathlib.Omega.{arith}
 use lib.ListN.{length, length-set}
 use lib.Seq.{sets-eq}
-use borrow.Author.Rules.{rules}
 use Rattle.net.specs.Versions.{corners-inside}
 use Rattle.obstacles.specs.Prepared.{record_at}
 use Rattle.obstacles.proofs.prepare_one.Goals as goal

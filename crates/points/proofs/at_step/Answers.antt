@@ -2,7 +2,6 @@
 use Prim.Native.Nat.{ℕ}
 use native.Mathlib.Omega.{arith}
 use mathlib.Core.Path.{◌≡◌, ◌∙◌, ap}
-use borrow.Author.Rules.{rules}
 use lib.IntN.{ℤ, pos, ◌+ℤ◌, ◌*ℤ◌, nat_abs}
 use mir.Syntax.{w16, w32}
 use mir.Val.{Fits, SFits, to_z, of_z}
@@ -15,19 +14,19 @@ module _ (from t : ℕ) (d : ℤ) (ff : Fits w16 from) (fd : SFits w32 d) (r : R
   product : to_z w32 (of_z w32 d) *ℤ to_z w32 t ≡ d *ℤ pos t
   product = rw (to_z-of_z fd, to_z_pos w32 {n = t} (omega (arith, reach-steps r)))
 
--- UNPARSED
+  -- UNPARSED
   product-fits : SFits w32 (to_z w32 (of_z w32 d) *ℤ to_z w32 t)
   product-fits = rw product (record { sfits = omega (arith, steps-fit r) })
 
--- UNPARSED
+  -- UNPARSED
   sum : to_z w32 from +ℤ to_z w32 (of_z w32 (to_z w32 (of_z w32 d) *ℤ to_z w32 t)) ≡ pos (stepped from d t)
   sum = rw (to_z-of_z product-fits, product, to_z_pos w32 {n = from} (omega arith)) (stepped_is r)
 
--- UNPARSED
+  -- UNPARSED
   sum_fits : SFits w32 (to_z w32 from +ℤ to_z w32 (of_z w32 (to_z w32 (of_z w32 d) *ℤ to_z w32 t)))
   sum_fits = rw sum (record { sfits = omega (arith, stepped-fits r) })
 
--- UNPARSED
+  -- UNPARSED
   back : to_z w32 (of_z w32 (to_z w32 from +ℤ to_z w32 (of_z w32 (to_z w32 (of_z w32 d) *ℤ to_z w32 t)))) ≡ pos (stepped from d t)
   back = to_z-of_z sum_fits ∙ sum
 

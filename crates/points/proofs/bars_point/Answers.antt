@@ -1,6 +1,5 @@
 -- `points::bars_point` meets its contract. Assumes nothing.
 use mathlib.Core.Path.{◌∙◌, sym}
-use borrow.Author.Rules.{rules}
 use Rattle.points.proofs.bars_point.Goals as goal
 
 pub returns-then-holds_point : goal.returns-then-holds_point

@@ -2,7 +2,6 @@
 use Prim.Native.Nat.{◌-◌}
 use mathlib.Core.Path.{◌∙◌, sym}
 use Rattle.points.specs.Geometry.{last_below, falls_read, rises_read, still_read}
-use borrow.Author.Rules.{rules}
 use Rattle.points.proofs.below_on_axis.Goals as goal
 
 pub returns-then-d-lt0 : goal.returns-then-d-lt0

@@ -2,7 +2,6 @@
 use Prim.Native.Nat.{ℕ}
 use native.Mathlib.Omega.{arith}
 use mathlib.Core.Path.{◌≡◌, ◌∙◌}
-use borrow.Author.Rules.{rules}
 use lib.IntN.{◌-ℤ◌, sub_ℕ}
 use mir.Syntax.{w16, w32}
 use mir.Val.{Fits, SFits, to_z}

@@ -1,7 +1,6 @@
 -- `points::first_above` meets its contract. Assumes nothing.
 use Rattle.points.specs.Geometry.{obstacle-above}
 use mir.Facts.{to_z-of_z}
-use borrow.Author.Rules.{rules}
 use Rattle.points.proofs.first_above.Goals as goal
 
 pub returns : goal.returns

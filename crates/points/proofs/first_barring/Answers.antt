@@ -1,11 +1,7 @@
 -- `points::first_barring` meets its contract. Assumes nothing.
-use Rattle.net.specs.Net.{obstacle_count}
-use Rattle.points.specs.Geometry.{bars}
 use borrow.Author.Count.{below_none, below_more}
 use native.Mathlib.Omega.{arith}
-use mathlib.Core.Bool.{false}
-use mathlib.Core.Path.{◌≡◌, ◌∙◌, sym}
-use Prim.Native.Nat.{ℕ, ◌-◌, ◌<◌, ◌≤◌}
+use mathlib.Core.Path.{◌∙◌, sym}
 use borrow.Author.Rules.{rules}
 use Rattle.points.proofs.first_barring.Goals as goal
 

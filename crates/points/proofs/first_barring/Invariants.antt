@@ -1,12 +1,9 @@
 -- `points::first_barring` meets its contract. Assumes nothing.
 use Rattle.net.specs.Net.{obstacle_count}
 use Rattle.points.specs.Geometry.{bars}
-use borrow.Author.Count.{below_none, below_more}
-use native.Mathlib.Omega.{arith}
 use mathlib.Core.Bool.{false}
-use mathlib.Core.Path.{◌≡◌, ◌∙◌, sym}
+use mathlib.Core.Path.{◌≡◌}
 use Prim.Native.Nat.{ℕ, ◌-◌, ◌<◌, ◌≤◌}
-use borrow.Author.Rules.{rules}
 use Rattle.points.proofs.first_barring.Given as goal
 
 abbrev pub invariant-loop-k : goal.invariant-loop-k

@@ -3,7 +3,6 @@ use Rattle.points.specs.Geometry.{reach-x, reach-y, barred_is, highest_ap}
 use mir.Facts.{to_z-of_z}
 use mir.Syntax.{w32}
 use native.Mathlib.Omega.{arith}
-use borrow.Author.Rules.{rules}
 use Rattle.points.proofs.highest_cuttable.Goals as goal
 
 pub highest_free-requires : goal.highest_free-requires

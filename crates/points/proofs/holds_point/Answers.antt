@@ -1,7 +1,6 @@
 -- `points::holds_point` meets its contract. Assumes nothing.
 use mathlib.Core.Path.{◌∙◌, sym}
 use Rattle.net.specs.Net.{holds}
-use borrow.Author.Rules.{rules}
 use Rattle.points.proofs.holds_point.Goals as goal
 
 pub returns-then-within : goal.returns-then-within

@@ -3,7 +3,6 @@ use native.Mathlib.Nat.{zero-div}
 use Rattle.laws.specs.Sum.{any}
 use Rattle.points.specs.Geometry.{bars, first_any}
 use Rattle.net.specs.Net.{barred}
-use borrow.Author.Rules.{rules}
 use Rattle.points.proofs.is_barred.Goals as goal
 
 pub returns-then-obstacles-eq0 : goal.returns-then-obstacles-eq0

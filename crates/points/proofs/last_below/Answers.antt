@@ -1,7 +1,6 @@
 -- `points::last_below` meets its contract. Assumes nothing.
 use Rattle.points.specs.Geometry.{obstacle-below}
 use mir.Facts.{to_z-of_z}
-use borrow.Author.Rules.{rules}
 use Rattle.points.proofs.last_below.Goals as goal
 
 pub returns : goal.returns

@@ -4,7 +4,6 @@ use native.Mathlib.Omega.{arith}
 use mathlib.Core.Path.{◌≡◌}
 use Rattle.net.specs.Net.{wire_length}
 use Rattle.points.specs.Geometry.{length-small}
-use borrow.Author.Rules.{rules}
 use Rattle.points.proofs.length_of.Goals as goal
 
 pub returns : goal.returns

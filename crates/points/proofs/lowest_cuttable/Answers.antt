@@ -5,7 +5,6 @@ use Prim.Native.Nat.{◌≤◌}
 use mir.Facts.{to_z-of_z}
 use mir.Syntax.{w32}
 use native.Mathlib.Omega.{arith}
-use borrow.Author.Rules.{rules}
 use Rattle.points.proofs.lowest_cuttable.Goals as goal
 
 pub lowest_free-requires : goal.lowest_free-requires

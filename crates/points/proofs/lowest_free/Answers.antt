@@ -8,7 +8,7 @@ use mir.Syntax.{w32}
 use native.Mathlib.Omega.{arith}
 use mathlib.Core.Bool.{true}
 use mathlib.Core.Path.{◌≡◌}
-use Prim.Native.Nat.{ℕ, ◌-◌, ◌<◌, ◌≤◌}
+use Prim.Native.Nat.{ℕ, ◌<◌, ◌≤◌}
 use borrow.Author.Rules.{rules}
 use Rattle.points.proofs.lowest_free.Goals as goal
 

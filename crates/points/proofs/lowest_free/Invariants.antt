@@ -1,15 +1,10 @@
 -- `points::lowest_free` meets its contract. Assumes nothing.
-use Rattle.points.specs.Geometry.{reach_less, bars, barred_at, first-none, leap_up}
+use Rattle.points.specs.Geometry.{barred_at}
 use Rattle.net.specs.Layout.{newest}
 use Rattle.net.specs.Net.{obstacle_count}
-use mir.Facts.{to_z-of_z}
-use mir.Val.{to_z, of_z}
-use mir.Syntax.{w32}
-use native.Mathlib.Omega.{arith}
 use mathlib.Core.Bool.{true}
 use mathlib.Core.Path.{◌≡◌}
 use Prim.Native.Nat.{ℕ, ◌-◌, ◌<◌, ◌≤◌}
-use borrow.Author.Rules.{rules}
 use Rattle.points.proofs.lowest_free.Given as goal
 
 abbrev pub invariant-loop-t : goal.invariant-loop-t

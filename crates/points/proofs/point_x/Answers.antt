@@ -2,7 +2,6 @@
 use Rattle.points.specs.Geometry.{reach-x, point_x_is}
 use native.Mathlib.Omega.{arith}
 use mir.Facts.{to_z-of_z}
-use borrow.Author.Rules.{rules}
 use Rattle.points.proofs.point_x.Goals as goal
 
 pub at_step-requires : goal.at_step-requires

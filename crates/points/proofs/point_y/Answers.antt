@@ -2,7 +2,6 @@
 use Rattle.points.specs.Geometry.{reach-y, point_y_is}
 use native.Mathlib.Omega.{arith}
 use mir.Facts.{to_z-of_z}
-use borrow.Author.Rules.{rules}
 use Rattle.points.proofs.point_y.Goals as goal
 
 pub at_step-requires : goal.at_step-requires

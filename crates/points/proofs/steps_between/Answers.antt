@@ -2,7 +2,6 @@
 use Prim.Native.Nat.{ℕ, ◌+◌, ◌-◌, ◌^◌, ◌<◌, ◌≤◌}
 use native.Mathlib.Omega.{arith}
 use mathlib.Core.Path.{◌≡◌, ◌∙◌, sym, ap}
-use borrow.Author.Rules.{rules}
 use borrow.Author.Tests.{ltb-true, ltb-false}
 use lib.IntN.{ℤ, pos, ◌-ℤ◌, nat_abs, sub_ℕ}
 use lib.Signed.{mag}
@@ -18,15 +17,15 @@ module _ (from to : ℕ) (d : ℤ) (small : from < length_bound) (small' : to < 
   negated : to < from → pos 0 -ℤ to_z w32 (of_z w32 d) ≡ pos (from - to)
   negated h = rw (difference_read f, e, difference_below to from h) (let z : 0 + (from - to) ≡ from - to = omega arith in ap pos z)
 
--- UNPARSED
+  -- UNPARSED
   negated_fits : to < from → SFits w32 (pos 0 -ℤ to_z w32 (of_z w32 d))
   negated_fits h = rw (negated h) (record { sfits = omega arith })
 
--- UNPARSED
+  -- UNPARSED
   negated-read : to < from → to_z w32 (of_z w32 (pos 0 -ℤ to_z w32 (of_z w32 d))) ≡ pos (from - to)
   negated-read h = to_z-of_z (negated_fits h) ∙ negated h
 
--- UNPARSED
+  -- UNPARSED
   kept_read : from ≤ to → to_z w32 (of_z w32 d) ≡ pos (to - from)
   kept_read h = difference_read f ∙ (e ∙ difference_above to from h)
 

@@ -7,7 +7,6 @@ use Rattle.net.specs.declared.Refusal.{Refusal}
 use Rattle.net.specs.Refusal.{answer}
 use Rattle.net.specs.First.{met-number}
 use Rattle.net.specs.Calls.{call_unmet, call_stage, call_head, call_net}
-use borrow.Author.Rules.{rules}
 use Rattle.repairs.proofs.repair.Goals as goal
 
 pub returns-then-first-ne0 : goal.returns-then-first-ne0

@@ -7,7 +7,6 @@ use mathlib.Core.Bool.{Bool, false}
 use mathlib.Core.List.{List}
 use native.Mathlib.Omega.{arith}
 use lib.ListN.{length}
-use borrow.Author.Rules.{rules}
 use Rattle.laws.specs.Lists.{over}
 use Rattle.net.specs.declared.Refusal.{Refusal}
 use Rattle.net.specs.Net.{node_count}
@@ -26,10 +25,8 @@ use Rattle.repairs.specs.Promise.{no_legal_set}
 use Rattle.repairs.specs.RepairLaws.{Planned, ready_of, none_of, choosable_of, planned, planned-some, count-few, judged-short, judged-done}
 use Rattle.repairs.proofs.repair_net.Goals as goal
 
--- UNPARSED
 -- ---- and how long they are
 
--- UNPARSED
 -- ---- the needs
 
 pub first_passes-requires : goal.first_passes-requires
@@ -60,17 +57,17 @@ count_pass-points-requires c =
       ready = subst (λ (m : ℕ). Ready m ((c.args.nodes.now)) ((c.args.wires.now)) ((c.args.obstacles.now)) ((c.first_passes.new.lo)) ((c.first_passes.new.hi)) ((c.first_passes.new.host)) ((c.first_passes.new.fixed)) ((c.first_passes.new.gates))) (sym ((let it : (c.node_count-n.result) ≡ node_count ((c.args.nodes.now)) = c.node_count-n.ensures in it)))
           (ready_of ((c.args.nodes.now)) ((c.args.wires.now)) ((c.args.obstacles.now)) ((c.args.stage)) ((let it : NetRight newest c.args.nodes.now c.args.wires.now c.args.obstacles.now = net-right newest c.args.nodes.now c.args.wires.now c.args.obstacles.now c.requires in it)) ((c.first_passes.new.lo)) ((c.first_passes.new.hi)) ((c.first_passes.new.root)) ((c.first_passes.new.host)) ((c.first_passes.new.component)) ((c.first_passes.new.sourced)) ((c.first_passes.new.fixed)) ((c.first_passes.new.gates)) ((let it : Clustered ((c.args.nodes.now)) ((c.args.wires.now)) ((c.args.obstacles.now)) ((c.args.stage)) ((c.first_passes.new.lo)) ((c.first_passes.new.hi)) ((c.first_passes.new.root)) ((c.first_passes.new.host)) ((c.first_passes.new.component)) ((c.first_passes.new.sourced)) ((c.first_passes.new.fixed)) ((c.first_passes.new.gates)) = c.first_passes.ensures in it)));
       count_lengths = record {
-          hanging = record { los = omega (arith, (let it : length ((c.first_passes.new.lo)) ≡ most_nodes = c.first_passes.auto.lo in it)); hosts = omega (arith, (let it : length ((c.first_passes.new.host)) ≡ most_nodes = c.first_passes.auto.host in it)) };
-          his = omega (arith, (let it : length ((c.first_passes.new.hi)) ≡ most_nodes = c.first_passes.auto.hi in it));
-          fixeds = omega (arith, (let it : length ((c.first_passes.new.fixed)) ≡ most_nodes = c.first_passes.auto.fixed in it));
-          gate_counts = omega (arith, (let it : length ((c.first_passes.new.gates)) ≡ most_nodes = c.first_passes.auto.gates in it));
-          cuts = n;
-          anys = n;
-          any_weights = n;
-          flags = n;
-          nears = n;
-          fewests = n;
-        };
+        hanging = record { los = omega (arith, (let it : length ((c.first_passes.new.lo)) ≡ most_nodes = c.first_passes.auto.lo in it)); hosts = omega (arith, (let it : length ((c.first_passes.new.host)) ≡ most_nodes = c.first_passes.auto.host in it)) };
+        his = omega (arith, (let it : length ((c.first_passes.new.hi)) ≡ most_nodes = c.first_passes.auto.hi in it));
+        fixeds = omega (arith, (let it : length ((c.first_passes.new.fixed)) ≡ most_nodes = c.first_passes.auto.fixed in it));
+        gate_counts = omega (arith, (let it : length ((c.first_passes.new.gates)) ≡ most_nodes = c.first_passes.auto.gates in it));
+        cuts = n;
+        anys = n;
+        any_weights = n;
+        flags = n;
+        nears = n;
+        fewests = n;
+      };
       none_hopeless = none-hopeless ((c.node_count-n.result)) ((c.first_passes.new.fixed)) ((c.first_passes.new.gates)) ((c.args.limit)) ((let it : any_hopeless ((c.node_count-n.result)) ((c.first_passes.new.fixed)) ((c.first_passes.new.gates)) ((c.args.limit)) ≡ false = sym c.find_hopeless.ensures.0 ∙ c.if-find_hopeless.false in it));
     }
 
@@ -122,8 +119,8 @@ choose-requires c =
       };
       n_in_bounds = (n, n);
       choosable = subst (λ (m : ℕ). Choosable m ((c.args.wires.now)) ((c.first_passes.new.lo)) ((c.first_passes.new.hi)) ((c.first_passes.new.host)) ((c.count_pass-points.new.any_weight))) (sym ((let it : (c.node_count-n.result) ≡ node_count ((c.args.nodes.now)) = c.node_count-n.ensures in it)))
-            (choosable_of ((c.args.nodes.now)) ((c.args.wires.now)) ((c.args.obstacles.now)) ((c.args.stage)) ((let it : NetRight newest c.args.nodes.now c.args.wires.now c.args.obstacles.now = net-right newest c.args.nodes.now c.args.wires.now c.args.obstacles.now c.requires in it)) ((c.first_passes.new.lo)) ((c.first_passes.new.hi)) ((c.first_passes.new.root)) ((c.first_passes.new.host)) ((c.first_passes.new.component)) ((c.first_passes.new.sourced)) ((c.first_passes.new.fixed)) ((c.first_passes.new.gates)) ((let it : Clustered ((c.args.nodes.now)) ((c.args.wires.now)) ((c.args.obstacles.now)) ((c.args.stage)) ((c.first_passes.new.lo)) ((c.first_passes.new.hi)) ((c.first_passes.new.root)) ((c.first_passes.new.host)) ((c.first_passes.new.component)) ((c.first_passes.new.sourced)) ((c.first_passes.new.fixed)) ((c.first_passes.new.gates)) = c.first_passes.ensures in it))
-            ((c.args.limit)) ((c.count_pass-points.new.cut_any)) ((c.count_pass-points.new.any_ok)) ((c.count_pass-points.new.any_weight)) ((c.count_pass-points.new.has_ungated)) ((c.count_pass-points.new.near)) ((c.count_pass-points.new.fewest)) ((c.count_pass-points.result)) ((let it : CountedAll (node_count ((c.args.nodes.now))) ((c.args.nodes.now)) ((c.args.wires.now)) ((c.args.obstacles.now)) ((c.first_passes.new.lo)) ((c.first_passes.new.hi)) ((c.first_passes.new.host)) ((c.first_passes.new.fixed)) ((c.first_passes.new.gates)) ((c.args.limit)) ((c.count_pass-points.new.cut_any)) ((c.count_pass-points.new.any_ok)) ((c.count_pass-points.new.any_weight)) ((c.count_pass-points.new.has_ungated)) ((c.count_pass-points.new.near)) ((c.count_pass-points.new.fewest)) ((c.count_pass-points.result)) = subst (λ (m : ℕ). CountedAll m ((c.args.nodes.now)) ((c.args.wires.now)) ((c.args.obstacles.now)) ((c.first_passes.new.lo)) ((c.first_passes.new.hi)) ((c.first_passes.new.host)) ((c.first_passes.new.fixed)) ((c.first_passes.new.gates)) ((c.args.limit)) ((c.count_pass-points.new.cut_any)) ((c.count_pass-points.new.any_ok)) ((c.count_pass-points.new.any_weight)) ((c.count_pass-points.new.has_ungated)) ((c.count_pass-points.new.near)) ((c.count_pass-points.new.fewest)) ((c.count_pass-points.result))) ((let it : (c.node_count-n.result) ≡ node_count ((c.args.nodes.now)) = c.node_count-n.ensures in it)) c.count_pass-points.ensures in it)));
+          (choosable_of ((c.args.nodes.now)) ((c.args.wires.now)) ((c.args.obstacles.now)) ((c.args.stage)) ((let it : NetRight newest c.args.nodes.now c.args.wires.now c.args.obstacles.now = net-right newest c.args.nodes.now c.args.wires.now c.args.obstacles.now c.requires in it)) ((c.first_passes.new.lo)) ((c.first_passes.new.hi)) ((c.first_passes.new.root)) ((c.first_passes.new.host)) ((c.first_passes.new.component)) ((c.first_passes.new.sourced)) ((c.first_passes.new.fixed)) ((c.first_passes.new.gates)) ((let it : Clustered ((c.args.nodes.now)) ((c.args.wires.now)) ((c.args.obstacles.now)) ((c.args.stage)) ((c.first_passes.new.lo)) ((c.first_passes.new.hi)) ((c.first_passes.new.root)) ((c.first_passes.new.host)) ((c.first_passes.new.component)) ((c.first_passes.new.sourced)) ((c.first_passes.new.fixed)) ((c.first_passes.new.gates)) = c.first_passes.ensures in it))
+          ((c.args.limit)) ((c.count_pass-points.new.cut_any)) ((c.count_pass-points.new.any_ok)) ((c.count_pass-points.new.any_weight)) ((c.count_pass-points.new.has_ungated)) ((c.count_pass-points.new.near)) ((c.count_pass-points.new.fewest)) ((c.count_pass-points.result)) ((let it : CountedAll (node_count ((c.args.nodes.now))) ((c.args.nodes.now)) ((c.args.wires.now)) ((c.args.obstacles.now)) ((c.first_passes.new.lo)) ((c.first_passes.new.hi)) ((c.first_passes.new.host)) ((c.first_passes.new.fixed)) ((c.first_passes.new.gates)) ((c.args.limit)) ((c.count_pass-points.new.cut_any)) ((c.count_pass-points.new.any_ok)) ((c.count_pass-points.new.any_weight)) ((c.count_pass-points.new.has_ungated)) ((c.count_pass-points.new.near)) ((c.count_pass-points.new.fewest)) ((c.count_pass-points.result)) = subst (λ (m : ℕ). CountedAll m ((c.args.nodes.now)) ((c.args.wires.now)) ((c.args.obstacles.now)) ((c.first_passes.new.lo)) ((c.first_passes.new.hi)) ((c.first_passes.new.host)) ((c.first_passes.new.fixed)) ((c.first_passes.new.gates)) ((c.args.limit)) ((c.count_pass-points.new.cut_any)) ((c.count_pass-points.new.any_ok)) ((c.count_pass-points.new.any_weight)) ((c.count_pass-points.new.has_ungated)) ((c.count_pass-points.new.near)) ((c.count_pass-points.new.fewest)) ((c.count_pass-points.result))) ((let it : (c.node_count-n.result) ≡ node_count ((c.args.nodes.now)) = c.node_count-n.ensures in it)) c.count_pass-points.ensures in it)));
     }
 
 pub slice_bounds-write_list-end : goal.slice_bounds-write_list-end

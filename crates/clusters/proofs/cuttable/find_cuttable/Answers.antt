@@ -1,9 +1,7 @@
 -- `clusters::cuttable::find_cuttable` meets its contract: below i the arrays have the lowest and the highest positions. Assumes nothing.
-use Prim.Native.Nat.{ℕ, ◌-◌, ◌≤◌, ◌<◌}
-use mathlib.Core.Path.{◌≡◌, ◌∙◌}
+use mathlib.Core.Path.{◌∙◌}
 use native.Mathlib.Omega.{arith}
-use lib.ListN.{length, get_or, length-set}
-use borrow.Author.Rules.{rules}
+use lib.ListN.{length-set}
 use Rattle.net.specs.Layout.{newest}
 use Rattle.net.specs.Stage.{stage_of}
 use Rattle.clusters.specs.FirstPasses.{LowestFree, HighestFree}
@@ -11,8 +9,7 @@ use Rattle.clusters.specs.Turns.{filled_all}
 use Rattle.clusters.proofs.cuttable.find_cuttable.Goals as goal
 
 pub loop-i-init : goal.loop-i-init
-loop-i-init c =
-    (
+loop-i-init c = (
   omega arith,
   omega arith,
   omega arith,

@@ -2,7 +2,6 @@
 use mathlib.Core.Path.{◌≡◌, sym, ◌∙◌}
 use mathlib.Core.Bool.{true}
 use native.Mathlib.Omega.{arith}
-use borrow.Author.Rules.{rules}
 use Rattle.points.specs.Cuttable.{Checked}
 use Rattle.clusters.specs.FirstPasses.{is_present}
 use Rattle.clusters.specs.Turns.{is_present-positive}

@@ -2,7 +2,6 @@
 use mathlib.Core.Path.{◌≡◌, sym, ◌∙◌}
 use mathlib.Core.Bool.{true}
 use native.Mathlib.Omega.{arith}
-use borrow.Author.Rules.{rules}
 use Rattle.clusters.specs.FirstPasses.{is_present}
 use Rattle.clusters.specs.Turns.{is_present-positive}
 use Rattle.clusters.specs.EndsLaws.{checked, lowest-present, lowest-absent}

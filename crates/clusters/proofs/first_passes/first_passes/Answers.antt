@@ -1,11 +1,8 @@
 -- `clusters::first_passes::first_passes` meets its contract: each pass has what it requires from those before, and together they fit the net. Assumes nothing.
 -- ---- the places after each pass
-use Prim.Native.Nat.{ℕ, ◌≤◌}
-use mathlib.Core.Bool.{Bool}
-use mathlib.Core.List.{List}
+use Prim.Native.Nat.{◌≤◌}
 use native.Mathlib.Omega.{arith}
 use lib.ListN.{length}
-use borrow.Author.Rules.{rules}
 use Rattle.net.specs.Net.{node_count, wire_parent}
 use Rattle.clusters.specs.FirstPasses.{EndsInside, Falling, Filled, is_present, whole}
 use Rattle.clusters.specs.Turns.{is_present-lower, whole-lower, leads_falling}

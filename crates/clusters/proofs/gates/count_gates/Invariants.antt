@@ -1,11 +1,8 @@
 -- `clusters::gates::count_gates` meets its contract: the clusters below i have the gates below i. Assumes nothing.
-use Prim.Native.Nat.{ℕ, ◌+◌, ◌-◌, ◌≤◌, ◌<◌}
-use mathlib.Core.Path.{◌≡◌, ◌∙◌, ap}
-use native.Mathlib.Omega.{arith}
-use lib.ListN.{length, get_or, set, length-set}
-use borrow.Author.Rules.{rules}
+use Prim.Native.Nat.{ℕ, ◌-◌, ◌≤◌, ◌<◌}
+use mathlib.Core.Path.{◌≡◌}
+use lib.ListN.{length, get_or}
 use Rattle.clusters.specs.FirstPasses.{gathered, gate_of}
-use Rattle.clusters.specs.Turns.{gate-one, gathered-bound, gathered_none, cleared, gather-turn}
 use Rattle.clusters.proofs.gates.count_gates.Given as goal
 
 abbrev pub invariant-loop-i : goal.invariant-loop-i

@@ -1,6 +1,5 @@
 -- `clusters::gates::gate_of` meets its contract. Assumes nothing.
 use mathlib.Core.Path.{◌≡◌, sym, ◌∙◌, ap}
-use borrow.Author.Rules.{rules}
 use Rattle.net.specs.Net.{node_flags, is_gate}
 use Rattle.clusters.proofs.gates.gate_of.Goals as goal
 

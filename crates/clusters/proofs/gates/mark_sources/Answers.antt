@@ -1,11 +1,9 @@
 -- `clusters::gates::mark_sources` meets its contract: the components below i are marked by the sources below i. Assumes nothing.
-use Prim.Native.Nat.{ℕ, ◌-◌, ◌≤◌, ◌<◌}
+use Prim.Native.Nat.{ℕ}
 use mathlib.Core.Path.{◌≡◌, sym, ◌∙◌, ap}
 use mathlib.Core.Bool.{false}
-use mathlib.Core.Logic.{⊎_elim}
 use native.Mathlib.Omega.{arith}
 use lib.ListN.{length, get_or, set, length-set}
-use borrow.Author.Rules.{rules}
 use Rattle.net.specs.Net.{node_flags, is_source}
 use Rattle.clusters.specs.FirstPasses.{source_in}
 use Rattle.clusters.specs.Turns.{mark_here, mark_not}
@@ -27,16 +25,16 @@ loop-i-preserved c =
     let a = c.args in (
       omega arith,
       elim c.if-is_source.branch [
-        then-is_source w ↦ ap length w.sourced-is ∙ (length-set (set l.sourced l.i false) (get_or a.component.now l.i 0) _ ∙ (length-set l.sourced l.i false ∙ l.invariant.1))
+        | then-is_source w ↦ ap length w.sourced-is ∙ (length-set (set l.sourced l.i false) (get_or a.component.now l.i 0) _ ∙ (length-set l.sourced l.i false ∙ l.invariant.1))
         | else-is_source w ↦ ap length w.sourced-is ∙ (length-set l.sourced l.i false ∙ l.invariant.1)
       ],
       elim c.if-is_source.branch [
-        then-is_source w ↦
-          rw w.sourced-is
-          (mark_here a.component.now (λ j. is_source (node_flags a.nodes.now j)) l.i l.sourced (omega arith) (λ j p. c.requires.falling j (omega arith)) l.invariant.2 (sym ((let it : c.is_source.result ≡ is_source (node_flags c.args.nodes.now c.loop-i.i) = c.is_source.ensures ∙ ap is_source c.node_flags.ensures in it)) ∙ w.if-is_source.true))
+        | then-is_source w ↦
+            rw w.sourced-is
+            (mark_here a.component.now (λ j. is_source (node_flags a.nodes.now j)) l.i l.sourced (omega arith) (λ j p. c.requires.falling j (omega arith)) l.invariant.2 (sym ((let it : c.is_source.result ≡ is_source (node_flags c.args.nodes.now c.loop-i.i) = c.is_source.ensures ∙ ap is_source c.node_flags.ensures in it)) ∙ w.if-is_source.true))
         | else-is_source w ↦
-          rw w.sourced-is
-          (mark_not a.component.now (λ j. is_source (node_flags a.nodes.now j)) l.i l.sourced (omega arith) (λ j p. c.requires.falling j (omega arith)) l.invariant.2 (sym ((let it : c.is_source.result ≡ is_source (node_flags c.args.nodes.now c.loop-i.i) = c.is_source.ensures ∙ ap is_source c.node_flags.ensures in it)) ∙ w.if-is_source.false))
+            rw w.sourced-is
+            (mark_not a.component.now (λ j. is_source (node_flags a.nodes.now j)) l.i l.sourced (omega arith) (λ j p. c.requires.falling j (omega arith)) l.invariant.2 (sym ((let it : c.is_source.result ≡ is_source (node_flags c.args.nodes.now c.loop-i.i) = c.is_source.ensures ∙ ap is_source c.node_flags.ensures in it)) ∙ w.if-is_source.false))
       ],
     )
 

@@ -1,14 +1,9 @@
 -- `clusters::gates::mark_sources` meets its contract: the components below i are marked by the sources below i. Assumes nothing.
 use Prim.Native.Nat.{ℕ, ◌-◌, ◌≤◌, ◌<◌}
-use mathlib.Core.Path.{◌≡◌, sym, ◌∙◌, ap}
+use mathlib.Core.Path.{◌≡◌}
 use mathlib.Core.Bool.{false}
-use mathlib.Core.Logic.{⊎_elim}
-use native.Mathlib.Omega.{arith}
-use lib.ListN.{length, get_or, set, length-set}
-use borrow.Author.Rules.{rules}
-use Rattle.net.specs.Net.{node_flags, is_source}
+use lib.ListN.{length, get_or}
 use Rattle.clusters.specs.FirstPasses.{source_in}
-use Rattle.clusters.specs.Turns.{mark_here, mark_not}
 use Rattle.clusters.proofs.gates.mark_sources.Given as goal
 
 abbrev pub invariant-loop-i : goal.invariant-loop-i

@@ -1,11 +1,9 @@
 -- `clusters::hopeless::find_hopeless` meets its contract: the components below r are marked by the clusters below r. Assumes nothing.
-use Prim.Native.Nat.{ℕ, ◌-◌, ◌≤◌, ◌<◌}
+use Prim.Native.Nat.{ℕ}
 use mathlib.Core.Path.{◌≡◌, refl, sym, ◌∙◌, ap}
 use mathlib.Core.Bool.{Bool, true, false, ◌||◌}
-use mathlib.Core.Logic.{⊎_elim}
 use native.Mathlib.Omega.{arith}
 use lib.ListN.{length, get_or, set, length-set}
-use borrow.Author.Rules.{rules}
 use Rattle.laws.specs.Sum.{any}
 use Rattle.laws.specs.Sums.{any_next, or_right}
 use Rattle.clusters.specs.Turns.{mark_here, mark_not}

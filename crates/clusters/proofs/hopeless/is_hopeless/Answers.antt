@@ -1,5 +1,4 @@
 -- `clusters::hopeless::is_hopeless` meets its contract. Assumes nothing.
-use borrow.Author.Rules.{rules}
 use borrow.Author.Tests.{lt-ltb, le-ltb}
 use Rattle.clusters.proofs.hopeless.is_hopeless.Goals as goal
 

@@ -1,11 +1,9 @@
 -- `clusters::roots::find_components` meets its contract: below i the array has the components. Assumes nothing.
-use Prim.Native.Nat.{◌-◌, ◌≤◌}
-use mathlib.Core.Path.{◌≡◌, ◌∙◌}
+use mathlib.Core.Path.{◌∙◌}
 use native.Mathlib.Omega.{arith}
-use lib.ListN.{length, length-set}
-use borrow.Author.Rules.{rules}
+use lib.ListN.{length-set}
 use Rattle.net.specs.Net.{wire_parent}
-use Rattle.clusters.specs.FirstPasses.{is_present, Leads}
+use Rattle.clusters.specs.FirstPasses.{is_present}
 use Rattle.clusters.specs.Turns.{is_present-lower, leads_more}
 use Rattle.clusters.proofs.roots.find_components.Goals as goal
 
@@ -16,7 +14,7 @@ pub component_of-requires : goal.component_of-requires
 component_of-requires c =
     let l = c.loop-i in
     let i = l.invariant in
- record {
+    record {
       i_in_bounds = (omega (arith, c.requires.wired.stored l.i (omega arith)), omega arith);
       i_bound = λ p. c.requires.wired.below l.i p (omega arith);
     }

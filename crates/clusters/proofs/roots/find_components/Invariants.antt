@@ -1,12 +1,9 @@
 -- `clusters::roots::find_components` meets its contract: below i the array has the components. Assumes nothing.
 use Prim.Native.Nat.{◌-◌, ◌≤◌}
-use mathlib.Core.Path.{◌≡◌, ◌∙◌}
-use native.Mathlib.Omega.{arith}
-use lib.ListN.{length, length-set}
-use borrow.Author.Rules.{rules}
+use mathlib.Core.Path.{◌≡◌}
+use lib.ListN.{length}
 use Rattle.net.specs.Net.{wire_parent}
 use Rattle.clusters.specs.FirstPasses.{is_present, Leads}
-use Rattle.clusters.specs.Turns.{is_present-lower, leads_more}
 use Rattle.clusters.proofs.roots.find_components.Given as goal
 
 abbrev pub invariant-loop-i : goal.invariant-loop-i

@@ -1,9 +1,7 @@
 -- `clusters::roots::find_hosts` meets its contract: below i the array has the hosts. Assumes nothing.
-use Prim.Native.Nat.{ℕ, ◌-◌, ◌≤◌, ◌<◌}
-use mathlib.Core.Path.{◌≡◌, ◌∙◌}
+use mathlib.Core.Path.{◌∙◌}
 use native.Mathlib.Omega.{arith}
-use lib.ListN.{length, get_or, length-set}
-use borrow.Author.Rules.{rules}
+use lib.ListN.{length-set}
 use Rattle.clusters.specs.FirstPasses.{host_of}
 use Rattle.clusters.specs.Turns.{cuttable-positive, filled_more}
 use Rattle.clusters.proofs.roots.find_hosts.Goals as goal
@@ -14,7 +12,7 @@ loop-i-init c = (omega arith, omega arith, λ j p. absurd (native.Mathlib.Nat.lt
 pub host_of-requires : goal.host_of-requires
 host_of-requires c =
     let l = c.loop-i in
- record {
+    record {
       i_in_bounds = (omega (arith, c.requires.wired.stored l.i (omega arith)), omega arith, omega arith);
       i_bound = (λ p. c.requires.wired.below l.i p (omega arith), cuttable-positive c.args.lo.now c.requires.lo_value l.i);
     }

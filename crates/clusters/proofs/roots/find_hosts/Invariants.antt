@@ -1,11 +1,8 @@
 -- `clusters::roots::find_hosts` meets its contract: below i the array has the hosts. Assumes nothing.
 use Prim.Native.Nat.{ℕ, ◌-◌, ◌≤◌, ◌<◌}
-use mathlib.Core.Path.{◌≡◌, ◌∙◌}
-use native.Mathlib.Omega.{arith}
-use lib.ListN.{length, get_or, length-set}
-use borrow.Author.Rules.{rules}
+use mathlib.Core.Path.{◌≡◌}
+use lib.ListN.{length, get_or}
 use Rattle.clusters.specs.FirstPasses.{host_of}
-use Rattle.clusters.specs.Turns.{cuttable-positive, filled_more}
 use Rattle.clusters.proofs.roots.find_hosts.Given as goal
 
 abbrev pub invariant-loop-i : goal.invariant-loop-i

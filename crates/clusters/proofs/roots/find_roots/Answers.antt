@@ -1,11 +1,9 @@
 -- `clusters::roots::find_roots` meets its contract: below i the array has the roots. Assumes nothing.
-use Prim.Native.Nat.{◌-◌, ◌≤◌}
-use mathlib.Core.Path.{◌≡◌, ◌∙◌}
+use mathlib.Core.Path.{◌∙◌}
 use native.Mathlib.Omega.{arith}
-use lib.ListN.{length, length-set}
-use borrow.Author.Rules.{rules}
+use lib.ListN.{length-set}
 use Rattle.net.specs.Net.{wire_parent}
-use Rattle.clusters.specs.FirstPasses.{whole, Leads}
+use Rattle.clusters.specs.FirstPasses.{whole}
 use Rattle.clusters.specs.Turns.{whole-lower, leads_more}
 use Rattle.clusters.proofs.roots.find_roots.Goals as goal
 
@@ -16,7 +14,7 @@ pub root_of-requires : goal.root_of-requires
 root_of-requires c =
     let l = c.loop-i in
     let i = l.invariant in
- record {
+    record {
       i_in_bounds = (omega (arith, c.requires.wired.stored l.i (omega arith)), omega arith, omega arith);
       i_bound = λ p. c.requires.wired.below l.i p (omega arith);
     }

@@ -1,12 +1,9 @@
 -- `clusters::roots::find_roots` meets its contract: below i the array has the roots. Assumes nothing.
 use Prim.Native.Nat.{◌-◌, ◌≤◌}
-use mathlib.Core.Path.{◌≡◌, ◌∙◌}
-use native.Mathlib.Omega.{arith}
-use lib.ListN.{length, length-set}
-use borrow.Author.Rules.{rules}
+use mathlib.Core.Path.{◌≡◌}
+use lib.ListN.{length}
 use Rattle.net.specs.Net.{wire_parent}
 use Rattle.clusters.specs.FirstPasses.{whole, Leads}
-use Rattle.clusters.specs.Turns.{whole-lower, leads_more}
 use Rattle.clusters.proofs.roots.find_roots.Given as goal
 
 abbrev pub invariant-loop-i : goal.invariant-loop-i

@@ -1,10 +1,9 @@
 -- `clusters::weights::weigh_clusters` meets its contract: the clusters below i have the weight of the wires below i. Assumes nothing.
-use Prim.Native.Nat.{ℕ, ◌+◌, ◌-◌, ◌≤◌, ◌<◌}
+use Prim.Native.Nat.{ℕ, ◌+◌, ◌≤◌, ◌<◌}
 use mathlib.Core.Path.{◌≡◌, ◌∙◌, ap}
 use mathlib.Core.List.{List}
 use native.Mathlib.Omega.{arith}
 use lib.ListN.{length, get_or, set, length-set}
-use borrow.Author.Rules.{rules}
 use Rattle.net.specs.Layout.{most_nodes}
 use Rattle.net.specs.Limits.{wire_weight_bound}
 use Rattle.clusters.specs.FirstPasses.{Falling, gathered, lower_weight, upper_weight}

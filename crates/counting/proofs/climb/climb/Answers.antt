@@ -11,7 +11,7 @@ stretch_weight-span-requires c =
     let b = c.requires.branch in
     let high = open_high a.nodes.now a.wires.now a.obstacles.now a.i a.hi b.hi_open in
     let small = length-small a.nodes.now a.wires.now a.i (λ k. omega (arith, c.type_inv.nodes k)) b.checked in
- record {
+    record {
       i_nonzero = (b.checked.numbered, b.checked.stored);
       from_le_to = (b.in_order, omega arith);
     }
@@ -53,7 +53,7 @@ stretch_weight-rest-requires c =
     let b = c.requires.branch in
     let high = open_high a.nodes.now a.wires.now a.obstacles.now a.i a.hi b.hi_open in
     let small = length-small a.nodes.now a.wires.now a.i (λ k. omega (arith, c.type_inv.nodes k)) b.checked in
- record {
+    record {
       i_nonzero = (b.checked.numbered, b.checked.stored);
       from_le_to = (omega (arith, b.in_order, c.last_within-near.ensures.before_hi), omega arith);
     }

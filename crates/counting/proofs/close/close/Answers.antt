@@ -10,7 +10,7 @@ use Rattle.counting.proofs.close.close.Goals as goal
 pub sum_branches-all-requires : goal.sum_branches-all-requires
 sum_branches-all-requires c =
     let room = c.requires.room in
- record {
+    record {
       hanging = c.requires.hanging.0;
       branch_arrays = c.requires.branch_arrays;
       count_bound = (omega (arith, room.counts), omega (arith, room.weights), omega (arith, room.ungated_weights));

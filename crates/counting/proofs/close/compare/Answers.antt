@@ -2,7 +2,6 @@
 -- Assumes nothing.
 use mathlib.Core.Path.{refl, sym, ◌∙◌}
 use native.Mathlib.Omega.{arith}
-use borrow.Author.Rules.{rules}
 use Rattle.counting.specs.Close.{any-alone, ungated-alone, equal}
 use Rattle.counting.specs.CloseEndings.{any_preferred, any_not_preferred}
 use Rattle.counting.proofs.close.compare.Goals as goal

@@ -1,8 +1,6 @@
 -- `counting::close::cut_heaviest` meets its contract: the branches cut so far are the heaviest, and the weight left falls with each.
 -- Assumes nothing.
-use Prim.Native.Nat.{◌≤◌, ◌+◌}
 use native.Mathlib.Omega.{arith}
-use Rattle.counting.specs.Close.{branch_sum, Cutting}
 use Rattle.counting.specs.CloseCutting.{cutting_start, cutting_more, cutting_step, cutting_part}
 use Rattle.counting.proofs.close.cut_heaviest.Goals as goal
 

@@ -1,7 +1,6 @@
 -- `counting::close::heavier` meets its contract: its three tests are those of the definition.
 -- Assumes nothing.
 use mathlib.Core.Path.{sym, ◌∙◌}
-use borrow.Author.Rules.{rules}
 use Rattle.counting.proofs.close.heavier.Goals as goal
 
 pub returns-then-not-cut_any-j : goal.returns-then-not-cut_any-j

@@ -1,11 +1,7 @@
 -- `counting::close::heaviest` meets its contract: what holds of the branches passed holds of one more.
 -- Assumes nothing.
 use Prim.Native.Nat.{◌≤◌, ◌-◌}
-use mathlib.Core.Path.{◌≡◌, sym, ◌∙◌}
-use mathlib.Core.Logic.{⊎_elim}
-use native.Mathlib.Omega.{arith}
 use Rattle.counting.specs.Close.{Heaviest}
-use Rattle.counting.specs.CloseSums.{heaviest_none, heaviest_yes, heaviest_no}
 use Rattle.counting.proofs.close.heaviest.Given as goal
 
 abbrev pub invariant-loop-j : goal.invariant-loop-j

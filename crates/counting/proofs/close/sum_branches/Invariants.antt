@@ -1,15 +1,12 @@
 -- `counting::close::sum_branches` meets its contract: the sums so far are those of the branches passed.
 -- Assumes nothing.
 use Prim.Native.Nat.{◌≤◌, ◌-◌}
-use mathlib.Core.Path.{◌≡◌, sym, ◌∙◌}
-use mathlib.Core.Logic.{⊎_elim}
-use native.Mathlib.Omega.{arith}
+use mathlib.Core.Path.{◌≡◌}
 use Rattle.counting.specs.Close.{branch_sum, clear_count, flagged_sum}
-use Rattle.counting.specs.CloseSums.{branch-none, branch_yes, branch_no, branch-room, option_none, option_clear, option_flagged, option_no, option_room}
 use Rattle.counting.proofs.close.sum_branches.Given as goal
 
 abbrev pub invariant-loop-j : goal.invariant-loop-j
-invariant-loop-j l = 
+invariant-loop-j l =
     (l.j ≤ l.n) × (l.gated ≤ l.j) × (l.below ≡ branch_sum l.j l.lo l.host l.r l.count) × (l.light ≡ branch_sum l.j l.lo l.host l.r l.lightest)
     × (l.free ≡ flagged_sum l.j l.lo l.host l.r l.has_ungated l.ungated) × (l.gated ≡ clear_count l.j l.lo l.host l.r l.has_ungated)
 

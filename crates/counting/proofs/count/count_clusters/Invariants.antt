@@ -1,18 +1,11 @@
 -- `counting::count::count_clusters` meets its contract: before each turn the clusters from r on are closed and climbed, and no branch of a lower one is marked.
 -- Assumes nothing.
-use Prim.Native.Nat.{◌≤◌, ◌<◌, ◌-◌, ◌+◌}
-use mathlib.Core.Path.{◌≡◌, refl, ◌∙◌}
-use native.Mathlib.Omega.{arith}
-use lib.ListN.{length-set}
-use Rattle.counting.specs.Lengths.{CountLengths, BranchArrays}
-use Rattle.counting.specs.Close.{Room}
+use Prim.Native.Nat.{◌≤◌}
 use Rattle.counting.specs.Count.{work_clusters, Unmarked, CountedFrom, Kept}
-use Rattle.counting.specs.CountStep.{closable}
-use Rattle.counting.specs.CountArrays.{cluster_at, counted_none, room_of, unmarked_branches, unmarked_less, hung-above, branch_of, counted-turn}
 use Rattle.counting.proofs.count.count_clusters.Given as goal
 
 abbrev pub invariant-loop-r : goal.invariant-loop-r
-invariant-loop-r l = 
+invariant-loop-r l =
     (l.r ≤ l.n)
     × CountedFrom (work_clusters l.n l.nodes l.wires l.obstacles l.lo l.hi l.host l.fixed l.gates) l.limit l.cut_any l.fewest l.any_ok l.any_weight l.count l.lightest l.has_ungated l.ungated l.near l.r
     × Unmarked l.n l.lo l.host l.cut_any l.r

@@ -2,7 +2,6 @@
 -- Assumes nothing.
 -- ---- the places after the calls
 use native.Mathlib.Omega.{arith}
-use borrow.Author.Rules.{rules}
 use Rattle.counting.specs.CountTotal.{roots_few}
 use Rattle.counting.proofs.count.count_pass.Goals as goal
 
@@ -15,17 +14,17 @@ count_clusters-requires c =
     let long = c.requires.count_lengths in record {
       ready = ready;
       count_lengths = record {
-          hanging = long.hanging;
-          his = long.his;
-          fixeds = long.fixeds;
-          gate_counts = long.gate_counts;
-          cuts = omega (arith, long.cuts, c.clear.auto.cut_any);
-          anys = long.anys;
-          any_weights = long.any_weights;
-          flags = long.flags;
-          nears = long.nears;
-          fewests = long.fewests;
-        };
+        hanging = long.hanging;
+        his = long.his;
+        fixeds = long.fixeds;
+        gate_counts = long.gate_counts;
+        cuts = omega (arith, long.cuts, c.clear.auto.cut_any);
+        anys = long.anys;
+        any_weights = long.any_weights;
+        flags = long.flags;
+        nears = long.nears;
+        fewests = long.fewests;
+      };
       branch_arrays = record { counts = ready.few; lights = ready.few; flags = long.flags; weights = ready.few };
       none_hopeless = c.requires.none_hopeless;
       by_index = c.clear.ensures;

@@ -1,10 +1,7 @@
 -- `counting::count::total_points` meets its contract: the sum so far is that of the clusters passed.
 -- Assumes nothing.
-use Prim.Native.Nat.{◌≤◌, ◌-◌}
 use mathlib.Core.Path.{◌≡◌, sym}
-use mathlib.Core.Logic.{⊎_elim}
 use native.Mathlib.Omega.{arith}
-use Rattle.counting.specs.Count.{root_sum}
 use Rattle.counting.specs.CountTotal.{roots-none, roots-more, roots-same, roots-room}
 use Rattle.counting.proofs.count.total_points.Goals as goal
 use Rattle.counting.proofs.count.total_points.Goals.{then-lo-r-eq0, else-lo-r-eq0}
@@ -23,7 +20,7 @@ loop-r-preserved c =
     let a = c.args in
     let l = c.loop-r in
     elim c.if-lo-r-eq0.branch [
-      then-lo-r-eq0 w ↦ let z = roots-more a.lo.now a.fewest.now l.r w.if-lo-r-eq0.true in (omega arith, omega (arith, w.sum-is))
+      | then-lo-r-eq0 w ↦ let z = roots-more a.lo.now a.fewest.now l.r w.if-lo-r-eq0.true in (omega arith, omega (arith, w.sum-is))
       | else-lo-r-eq0 w ↦ let z = roots-same a.lo.now a.fewest.now l.r w.if-lo-r-eq0.false in (omega arith, omega (arith, w.sum-is))
     ]
 

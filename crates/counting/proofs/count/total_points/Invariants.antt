@@ -1,11 +1,8 @@
 -- `counting::count::total_points` meets its contract: the sum so far is that of the clusters passed.
 -- Assumes nothing.
 use Prim.Native.Nat.{◌≤◌, ◌-◌}
-use mathlib.Core.Path.{◌≡◌, sym}
-use mathlib.Core.Logic.{⊎_elim}
-use native.Mathlib.Omega.{arith}
+use mathlib.Core.Path.{◌≡◌}
 use Rattle.counting.specs.Count.{root_sum}
-use Rattle.counting.specs.CountTotal.{roots-none, roots-more, roots-same, roots-room}
 use Rattle.counting.proofs.count.total_points.Given as goal
 
 abbrev pub invariant-loop-r : goal.invariant-loop-r

@@ -3,7 +3,6 @@
 use Prim.Native.Nat.{◌*◌}
 use native.Mathlib.Omega.{arith}
 use Rattle.net.specs.Layout.{entry_bytes}
-use borrow.Author.Rules.{rules}
 use Rattle.lists.proofs.entries.entry_wire.Goals as goal
 
 pub overflow_cast-result : goal.overflow_cast-result

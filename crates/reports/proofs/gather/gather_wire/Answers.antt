@@ -1,0 +1,89 @@
+-- `reports::gather::gather_wire` meets its contract.
+-- Assumes nothing.
+-- ---- what is known from each place on
+use Prim.Native.Nat.{ℕ, ◌+◌, ◌-◌, ◌*◌, ◌<◌}
+use mathlib.Core.Path.{◌≡◌, sym, ◌∙◌}
+use mathlib.Core.Bool.{true, ◌&&◌}
+use mathlib.Core.List.{List}
+use native.Mathlib.Omega.{arith}
+use lib.Dec.{ltb, leb}
+use Rattle.net.specs.Limits.{wire_weight_bound}
+use Rattle.net.specs.Net.{wire_layer}
+use Rattle.pieces.specs.JumperList.{entry_count}
+use Rattle.lists.specs.EntriesOfWire.{OfWire}
+use Rattle.reports.specs.Gathering.{Parted}
+use Rattle.records.specs.ListRights.{entry-inside, stored_of}
+use Rattle.reports.specs.ListRights.{step-absent, step-joined, step_cut, wire_ready, at_more}
+use Rattle.records.specs.Reached.{Reached, reached_wire, reached_next}
+use Rattle.reports.proofs.gather.gather_wire.Goals as goal
+
+parted-at : {ns ws : List ℕ} {i first last a b : ℕ} {lo w f l lo' w' f' l' : List ℕ} → first ≡ a → last ≡ b →
+    Parted ns ws i first last lo w f l lo' w' f' l' → Parted ns ws i a b lo w f l lo' w' f' l'
+parted-at e d p = rw (e, d) at p
+
+-- ---- needs
+pub entries_end-end-requires : goal.entries_end-end-requires
+entries_end-end-requires c = c.requires.i_bound.1.inside
+
+pub is_present-requires : goal.is_present-requires
+is_present-requires c =
+    stored_of c.args.nodes.now c.args.wires.now c.args.jumpers.now c.args.stage c.requires.list_accepted c.args.i c.requires.i_bound.0
+
+pub returns-then-not-is_present : goal.returns-then-not-is_present
+returns-then-not-is_present c =
+    let flags = c.node_flags in
+    let a = c.args in
+    let absent = sym c.is_present.ensures ∙ c.if-not-is_present.true in (
+      (let it : Reached c.args.jumpers.now (c.args.i + 1) c.entries_end-end.result = let a = c.args in reached_next a.nodes.now a.wires.now a.jumpers.now a.stage c.requires.list_accepted a.i a.e c.entries_end-end.result ((let it : OfWire c.args.jumpers.now (entry_count c.args.jumpers.now) c.args.i c.args.e c.entries_end-end.result = let a = c.args in let n = c.entries_end-end.ensures in reached_wire a.nodes.now a.wires.now a.jumpers.now a.stage c.requires.list_accepted a.i a.e c.entries_end-end.result c.requires.i_bound.1 n.0 n.1 n.2 n.3 in it)) in it),
+      at_more (a.i * (2 * wire_weight_bound)) ((a.i + 1) * (2 * wire_weight_bound)) a.weight.now (omega arith) c.requires.roomy.1,
+      λ v os j.
+          step-absent v a.nodes.now a.wires.now a.jumpers.now os a.stage j a.i c.requires.i_bound.0 (c.requires.gathered_below v os j)
+          flags.result flags.ensures absent c.name_node.ensures,
+    )
+
+pub join_wire-requires : goal.join_wire-requires
+join_wire-requires c =
+    let a = c.args in
+    wire_ready a.nodes.now a.wires.now a.jumpers.now a.stage c.requires.list_accepted a.i c.requires.i_bound.0 c.requires.roomy.0 c.requires.roomy.1 c.requires.gathered_below ((let it : (ltb 0 c.args.i && leb (wire_layer c.args.wires.now c.args.i) c.args.stage) ≡ true = sym c.is_present.ensures ∙ c.if-not-is_present.false in it))
+
+pub returns-then-e-end : goal.returns-then-e-end
+returns-then-e-end c =
+    let a = c.args in (
+      (let it : Reached c.args.jumpers.now (c.args.i + 1) c.entries_end-end.result = let a = c.args in reached_next a.nodes.now a.wires.now a.jumpers.now a.stage c.requires.list_accepted a.i a.e c.entries_end-end.result ((let it : OfWire c.args.jumpers.now (entry_count c.args.jumpers.now) c.args.i c.args.e c.entries_end-end.result = let a = c.args in let n = c.entries_end-end.ensures in reached_wire a.nodes.now a.wires.now a.jumpers.now a.stage c.requires.list_accepted a.i a.e c.entries_end-end.result c.requires.i_bound.1 n.0 n.1 n.2 n.3 in it)) in it),
+      c.join_wire.ensures.1,
+      λ v os j.
+          step-joined v a.nodes.now a.wires.now a.jumpers.now os a.stage j a.i c.requires.i_bound.0 (c.requires.gathered_below v os j)
+          ((let it : (ltb 0 c.args.i && leb (wire_layer c.args.wires.now c.args.i) c.args.stage) ≡ true = sym c.is_present.ensures ∙ c.if-not-is_present.false in it)) a.e c.entries_end-end.result ((let it : OfWire c.args.jumpers.now (entry_count c.args.jumpers.now) c.args.i c.args.e c.entries_end-end.result = let a = c.args in let n = c.entries_end-end.ensures in reached_wire a.nodes.now a.wires.now a.jumpers.now a.stage c.requires.list_accepted a.i a.e c.entries_end-end.result c.requires.i_bound.1 n.0 n.1 n.2 n.3 in it)) c.if-e-end.true c.join_wire.ensures.0,
+    )
+
+pub entry_position-first-requires : goal.entry_position-first-requires
+entry_position-first-requires c = omega (arith, (let it : c.args.e < c.entries_end-end.result = omega (arith, ((let it : OfWire c.args.jumpers.now (entry_count c.args.jumpers.now) c.args.i c.args.e c.entries_end-end.result = let a = c.args in let n = c.entries_end-end.ensures in reached_wire a.nodes.now a.wires.now a.jumpers.now a.stage c.requires.list_accepted a.i a.e c.entries_end-end.result c.requires.i_bound.1 n.0 n.1 n.2 n.3 in it)).ordered, c.if-e-end.false) in it), ((let it : OfWire c.args.jumpers.now (entry_count c.args.jumpers.now) c.args.i c.args.e c.entries_end-end.result = let a = c.args in let n = c.entries_end-end.ensures in reached_wire a.nodes.now a.wires.now a.jumpers.now a.stage c.requires.list_accepted a.i a.e c.entries_end-end.result c.requires.i_bound.1 n.0 n.1 n.2 n.3 in it)).inside)
+
+pub overflow_sub-end : goal.overflow_sub-end
+overflow_sub-end c = omega (arith, (let it : c.args.e < c.entries_end-end.result = omega (arith, ((let it : OfWire c.args.jumpers.now (entry_count c.args.jumpers.now) c.args.i c.args.e c.entries_end-end.result = let a = c.args in let n = c.entries_end-end.ensures in reached_wire a.nodes.now a.wires.now a.jumpers.now a.stage c.requires.list_accepted a.i a.e c.entries_end-end.result c.requires.i_bound.1 n.0 n.1 n.2 n.3 in it)).ordered, c.if-e-end.false) in it))
+
+pub entry_position-last-requires : goal.entry_position-last-requires
+entry_position-last-requires c = omega (arith, (let it : c.args.e < c.entries_end-end.result = omega (arith, ((let it : OfWire c.args.jumpers.now (entry_count c.args.jumpers.now) c.args.i c.args.e c.entries_end-end.result = let a = c.args in let n = c.entries_end-end.ensures in reached_wire a.nodes.now a.wires.now a.jumpers.now a.stage c.requires.list_accepted a.i a.e c.entries_end-end.result c.requires.i_bound.1 n.0 n.1 n.2 n.3 in it)).ordered, c.if-e-end.false) in it), ((let it : OfWire c.args.jumpers.now (entry_count c.args.jumpers.now) c.args.i c.args.e c.entries_end-end.result = let a = c.args in let n = c.entries_end-end.ensures in reached_wire a.nodes.now a.wires.now a.jumpers.now a.stage c.requires.list_accepted a.i a.e c.entries_end-end.result c.requires.i_bound.1 n.0 n.1 n.2 n.3 in it)).inside)
+
+pub part_wire-requires : goal.part_wire-requires
+part_wire-requires c =
+    let a = c.args in
+    let end = c.entries_end-end.result in
+    let inside = entry-inside c.requires.list_accepted.0 a.nodes.now a.wires.now a.jumpers.now c.requires.list_accepted.1 a.stage c.requires.list_accepted.2 a.i a.e end ((let it : OfWire c.args.jumpers.now (entry_count c.args.jumpers.now) c.args.i c.args.e c.entries_end-end.result = let a = c.args in let n = c.entries_end-end.ensures in reached_wire a.nodes.now a.wires.now a.jumpers.now a.stage c.requires.list_accepted a.i a.e c.entries_end-end.result c.requires.i_bound.1 n.0 n.1 n.2 n.3 in it)) in record {
+      wire_ready = wire_ready a.nodes.now a.wires.now a.jumpers.now a.stage c.requires.list_accepted a.i c.requires.i_bound.0 c.requires.roomy.0 c.requires.roomy.1 c.requires.gathered_below ((let it : (ltb 0 c.args.i && leb (wire_layer c.args.wires.now c.args.i) c.args.stage) ≡ true = sym c.is_present.ensures ∙ c.if-not-is_present.false in it));
+      first_bound = (
+        omega (arith, c.entry_position-first.ensures, (inside a.e (omega arith) ((let it : c.args.e < c.entries_end-end.result = omega (arith, ((let it : OfWire c.args.jumpers.now (entry_count c.args.jumpers.now) c.args.i c.args.e c.entries_end-end.result = let a = c.args in let n = c.entries_end-end.ensures in reached_wire a.nodes.now a.wires.now a.jumpers.now a.stage c.requires.list_accepted a.i a.e c.entries_end-end.result c.requires.i_bound.1 n.0 n.1 n.2 n.3 in it)).ordered, c.if-e-end.false) in it))).1),
+        omega (arith, c.entry_position-last.ensures, (inside (end - 1) (omega (arith, (let it : c.args.e < c.entries_end-end.result = omega (arith, ((let it : OfWire c.args.jumpers.now (entry_count c.args.jumpers.now) c.args.i c.args.e c.entries_end-end.result = let a = c.args in let n = c.entries_end-end.ensures in reached_wire a.nodes.now a.wires.now a.jumpers.now a.stage c.requires.list_accepted a.i a.e c.entries_end-end.result c.requires.i_bound.1 n.0 n.1 n.2 n.3 in it)).ordered, c.if-e-end.false) in it))) (omega (arith, (let it : c.args.e < c.entries_end-end.result = omega (arith, ((let it : OfWire c.args.jumpers.now (entry_count c.args.jumpers.now) c.args.i c.args.e c.entries_end-end.result = let a = c.args in let n = c.entries_end-end.ensures in reached_wire a.nodes.now a.wires.now a.jumpers.now a.stage c.requires.list_accepted a.i a.e c.entries_end-end.result c.requires.i_bound.1 n.0 n.1 n.2 n.3 in it)).ordered, c.if-e-end.false) in it)))).1),
+      );
+    }
+
+pub returns : goal.returns
+returns c =
+    let a = c.args in (
+      (let it : Reached c.args.jumpers.now (c.args.i + 1) c.entries_end-end.result = let a = c.args in reached_next a.nodes.now a.wires.now a.jumpers.now a.stage c.requires.list_accepted a.i a.e c.entries_end-end.result ((let it : OfWire c.args.jumpers.now (entry_count c.args.jumpers.now) c.args.i c.args.e c.entries_end-end.result = let a = c.args in let n = c.entries_end-end.ensures in reached_wire a.nodes.now a.wires.now a.jumpers.now a.stage c.requires.list_accepted a.i a.e c.entries_end-end.result c.requires.i_bound.1 n.0 n.1 n.2 n.3 in it)) in it),
+      c.part_wire.ensures.1,
+      λ v os j.
+          step_cut v a.nodes.now a.wires.now a.jumpers.now os a.stage j a.i c.requires.i_bound.0 (c.requires.gathered_below v os j)
+          ((let it : (ltb 0 c.args.i && leb (wire_layer c.args.wires.now c.args.i) c.args.stage) ≡ true = sym c.is_present.ensures ∙ c.if-not-is_present.false in it)) a.e c.entries_end-end.result ((let it : OfWire c.args.jumpers.now (entry_count c.args.jumpers.now) c.args.i c.args.e c.entries_end-end.result = let a = c.args in let n = c.entries_end-end.ensures in reached_wire a.nodes.now a.wires.now a.jumpers.now a.stage c.requires.list_accepted a.i a.e c.entries_end-end.result c.requires.i_bound.1 n.0 n.1 n.2 n.3 in it)) ((let it : c.args.e < c.entries_end-end.result = omega (arith, ((let it : OfWire c.args.jumpers.now (entry_count c.args.jumpers.now) c.args.i c.args.e c.entries_end-end.result = let a = c.args in let n = c.entries_end-end.ensures in reached_wire a.nodes.now a.wires.now a.jumpers.now a.stage c.requires.list_accepted a.i a.e c.entries_end-end.result c.requires.i_bound.1 n.0 n.1 n.2 n.3 in it)).ordered, c.if-e-end.false) in it))
+          (parted-at c.entry_position-first.ensures c.entry_position-last.ensures c.part_wire.ensures.0),
+    )
