@@ -40,9 +40,9 @@ module _ {s : Stage} {limit : ℕ} {out after : List ℕ} {r : Answer} where
   answer-short {n} least (done list m small le e k) short = let q = least-count least small in absurd (native.Mathlib.Nat.lt_irrefl 0 (omega arith))
 
   pub answer-none : NoneLegal s limit → Judged s limit out after r → (r ≡ answer (refusal 15 0) 0) × (after ≡ out)
-  answer-none none (no_legal_set f e k) = (e, k)
-  answer-none none (too_short list m small lt e k) = absurd (none (listed list m) small.legal)
-  answer-none none (done list m small le e k) = absurd (none (listed list m) small.legal)
+  answer-none unfit (no_legal_set f e k) = (e, k)
+  answer-none unfit (too_short list m small lt e k) = absurd (unfit (listed list m) small.legal)
+  answer-none unfit (done list m small le e k) = absurd (unfit (listed list m) small.legal)
 
 -- net A at limit 1: a smallest list is 1 1 and 1 12
 module _ (list : List ℕ) (small : Smallest A 1 list 2) where

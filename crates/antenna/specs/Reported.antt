@@ -1,7 +1,7 @@
 -- What follows from report's promise where it answers done: the records in the lent buffer are those of the pieces, each once, in rising order, and their weights add up
 -- to the weight of all wire that the stage has. The file is bytes, as every slice of bytes is.
 -- Assumes nothing.
-use Prim.Native.Nat.{ℕ, zero, ◌+◌, ◌*◌, ◌/◌, ◌%◌, ◌^◌, ◌<◌}
+use Prim.Native.Nat.{ℕ, ◌+◌, ◌*◌, ◌/◌, ◌%◌, ◌^◌, ◌<◌}
 use Rattle.std.specs.Prelude.{◌≡◌, refl, Bool, true, false, ltb, eqb, length, get_or}
 use Rattle.std.proofs.Common.{sym, ◌∙◌, ap, ⊎_elim, add-zero, ltb-true, ltb-false}
 use Rattle.std.proofs.Math.Path.{subst}

@@ -30,13 +30,7 @@ pub fn antenna_write(
 }
 
 // Reports every piece of a net at a stage with jumpers in place: 1, 2 to 11 and 20, 12 to 14, 16, or the number of records.
-pub fn antenna_report(
-    stage: u32,
-    limit: u32,
-    file: &[u8],
-    jumpers: &[u8],
-    out: &mut [u8],
-) -> Answer
+pub fn antenna_report(stage: u32, limit: u32, file: &[u8], jumpers: &[u8], out: &mut [u8]) -> Answer
     ensures { (result ≡ report_answer stage file.now jumpers.now (length out.old)) × (out.new ≡ report_buffer stage limit file.now jumpers.now out.old) }
 {
     reports::one_pass::report(stage, limit, file, jumpers, out)
