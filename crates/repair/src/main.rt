@@ -9,7 +9,7 @@ ghost use Rattle.repair.specs.Printed.{most_input, answer_lines, Printed};
 use net::Answer;
 use net::layout::ENTRY_BYTES;
 use std::io;
-use std::io::{BufWriter, Read, Write};
+use std::io::{Read, Write};
 
 // `jumpers` and the count, then the list; or the refusal.
 fn print_answer<W: Write>(to: &mut W, a: Answer, out: &[u8]) -> io::Result<()>
@@ -43,7 +43,7 @@ fn run<R: Read, W: Write>(from: &mut R, to: &mut W) -> io::Result<()>
 }
 
 fn main(rt: HostRuntime) -> io::Result<()> {
-    let mut to = BufWriter::new(rt.alloc(), rt.stdout())?;
+    let mut to = rt.stdout();
     run(&mut rt.stdin(), &mut to)?;
     to.flush()
 }

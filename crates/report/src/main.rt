@@ -9,7 +9,7 @@ ghost use Rattle.report.specs.Printed.{most_input, answer_lines, printed};
 use net::Answer;
 use net::layout::RECORD_BYTES;
 use std::io;
-use std::io::{BufWriter, Read, Write};
+use std::io::{Read, Write};
 
 // The records; or the refusal.
 fn print_answer<W: Write>(to: &mut W, a: Answer, out: &[u8]) -> io::Result<()>
@@ -41,7 +41,7 @@ fn run<R: Read, W: Write>(from: &mut R, to: &mut W) -> io::Result<()>
 }
 
 fn main(rt: HostRuntime) -> io::Result<()> {
-    let mut to = BufWriter::new(rt.alloc(), rt.stdout())?;
+    let mut to = rt.stdout();
     run(&mut rt.stdin(), &mut to)?;
     to.flush()
 }
