@@ -1,7 +1,7 @@
 # make demo     build what is needed, and report, repair and draw a sample net
 # make test     prove every crate, build the library, run the Rust tests; the last line is 'N passed, M failed'
 # make bench    the proved library against plain Rust, as ratios, and the stack that each call takes
-#               BEFORE=COMMIT: against that commit's library too
+#               BEFORE=COMMIT: against that commit's library too, if this kit builds it (a commit with tests/library)
 # make fuzz     all five calls against the independent implementation under libFuzzer, for SECONDS (3600)
 # make install  library, header, pkg-config file, programs and man pages under PREFIX (/usr/local)
 #

@@ -104,7 +104,8 @@ fn names_used(line: &str) -> Vec<(String, String)> {
 /// `crates/net/specs/Net.antt` for `Rattle.net.specs.Net`. None for a module of the kit, and for a struct of the code.
 fn file_of(module: &str) -> Option<String> {
     let (home, file) = module.strip_prefix("Rattle.")?.split_once(".specs.")?;
-    (home != "std" && !file.starts_with("declared.")).then(|| format!("crates/{home}/specs/{file}.antt"))
+    (home != "std" && !file.starts_with("declared."))
+        .then(|| format!("crates/{home}/specs/{file}.antt"))
 }
 
 impl Block {
@@ -277,7 +278,7 @@ impl Specs {
         for export in text.split("pub extern \"C\" fn ").skip(1) {
             let (name, rest) = export.split_once('(').unwrap();
             let (contract, _) = rest.split_once("\n{\n").unwrap();
-            assert!(!contract.contains("requires {"), "{name} has no requires");
+            assert!(!contract.contains("requires"), "{name} has no requires");
             let (_, ensures) = contract.split_once("ensures {").expect(name);
             promises.insert(name.into(), self.of_contract(&text, ensures));
         }

@@ -1,5 +1,7 @@
 -- `net::write::write` meets its contract.
 -- Assumes nothing.
+use Prim.Native.Nat.{◌<◌}
+use Rattle.net.specs.File.{file_bytes}
 use mathlib.Core.Path.{◌∙◌, refl, ap, sym}
 use native.Mathlib.Omega.{arith}
 use lib.ListN.{length}
@@ -56,9 +58,10 @@ returns-then-out-needed c =
     let v = sym c.is_version.ensures ∙ c.if-not-is_version.false in
     let m = unmet-number c.net_refusal-r.result c.if-r-ne0.false in
     let r = c.refused-then-out-needed in
+    let less : length a.out.now < file_bytes a.nodes.now a.wires.now a.obstacles.now = omega (arith, c.if-out-needed.true) in
     let w =
     r.ensures
-    ∙ write_lent a.version a.nodes.now a.wires.now a.obstacles.now (length a.out.now) c.net_refusal-r.result _ v c.net_refusal-r.ensures m refl c.if-out-needed.true in
+    ∙ write_lent a.version a.nodes.now a.wires.now a.obstacles.now (length a.out.now) c.net_refusal-r.result _ v c.net_refusal-r.ensures m refl less in
     let k = ap met r.ensures in (
       c.answered-then-out-needed.ensures ∙ answer-refused a.version a.nodes.now a.wires.now a.obstacles.now (length a.out.now) r.result w k,
       buffer-refused a.version a.nodes.now a.wires.now a.obstacles.now a.out.now r.result w k,
