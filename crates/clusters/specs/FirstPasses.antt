@@ -8,6 +8,7 @@ use Rattle.net.specs.Net.{node_count, node_x, node_y, node_flags, is_gate, is_so
 use Rattle.net.specs.Stage.{Stage, stage_of}
 use Rattle.cuts.specs.Fits.{Fits, free_at}
 use Rattle.cuts.specs.Bounds.{all_weight}
+use Rattle.clusters.specs.declared.work.Clusters.{Clusters}
 use Rattle.clusters.specs.Arrays.{clusters_of}
 
 -- what reading a net has checked, as far as these passes use it
@@ -92,31 +93,22 @@ upper_weight ns ws lo hi i = χ (cuttable lo i) ((wire_length ns ws i - get_or h
 abbrev pub gathered : ℕ → List ℕ → (ℕ → ℕ) → ℕ → ℕ
 gathered n a x r = sum n (λ i. χ (eqb (get_or a i 0) r) (x i))
 
--- the work arrays have an entry for each of n nodes
-pub record FirstLengths (n : ℕ) (lo hi root host component : List ℕ) (sourced : List Bool) (fixed gates : List ℕ) : Type 0 where
-  pub los : n ≤ length lo
-  pub his : n ≤ length hi
-  pub roots : n ≤ length root
-  pub hosts : n ≤ length host
-  pub components : n ≤ length component
-  pub marks : n ≤ length sourced
-  pub weights : n ≤ length fixed
-  pub gate_counts : n ≤ length gates
-
 -- what each of the first passes leaves in its array
-pub record Filled (ns ws os : List ℕ) (k : ℕ) (lo hi root host component : List ℕ) (sourced : List Bool) (fixed gates : List ℕ) : Type 0 where
-  pub ends : Ends (stage_of newest ns ws os k) lo hi
-  pub roots : Leads (node_count ns) (whole ws k lo) (wire_parent ws) root
-  pub hosts : (i : ℕ) → i < node_count ns → get_or host i 0 ≡ host_of ws lo root i
-  pub components : Leads (node_count ns) (is_present ws k) (wire_parent ws) component
-  pub sources : (c : ℕ) → c < node_count ns → get_or sourced c false ≡ source_in ns component (node_count ns) c
-  pub gated : (r : ℕ) → r < node_count ns → get_or gates r 0 ≡ gathered (node_count ns) root (gate_of ns component sourced) r
-  pub weighed : (r : ℕ) → r < node_count ns → get_or fixed r 0 ≡ gathered (node_count ns) root (lower_weight ns ws k lo) r + gathered (node_count ns) host (upper_weight ns ws lo hi) r
+pub record Filled (ns ws os : List ℕ) (k : ℕ) {N : ℕ} (c : Clusters N) : Type 0 where
+  pub n_is : c.n ≡ node_count ns
+  pub ends : Ends (stage_of newest ns ws os k) c.lo c.hi
+  pub roots : Leads (node_count ns) (whole ws k c.lo) (wire_parent ws) c.root
+  pub hosts : (i : ℕ) → i < node_count ns → get_or c.host i 0 ≡ host_of ws c.lo c.root i
+  pub components : Leads (node_count ns) (is_present ws k) (wire_parent ws) c.component
+  pub sources : (r : ℕ) → r < node_count ns → get_or c.sourced r false ≡ source_in ns c.component (node_count ns) r
+  pub gated : (r : ℕ) → r < node_count ns → get_or c.gates r 0 ≡ gathered (node_count ns) c.root (gate_of ns c.component c.sourced) r
+  pub weighed : (r : ℕ) → r < node_count ns → get_or c.fixed r 0 ≡ gathered (node_count ns) c.root (lower_weight ns ws k c.lo) r + gathered (node_count ns) c.host (upper_weight ns ws c.lo c.hi) r
 
 -- what all of them promise: the arrays fit the net at the stage, and their numbers are small
-pub record Clustered (ns ws os : List ℕ) (k : ℕ) (lo hi root host component : List ℕ) (sourced : List Bool) (fixed gates : List ℕ) : Type 0 where
-  pub fits : Fits (stage_of newest ns ws os k) (clusters_of (stage_of newest ns ws os k) lo hi host fixed gates) (λ i. get_or root i 0) (λ i. get_or component i 0)
-  pub components_fall : Falling (node_count ns) component
-  pub sources : (c : ℕ) → c < node_count ns → get_or sourced c false ≡ source_in ns component (node_count ns) c
-  pub light : all_weight (clusters_of (stage_of newest ns ws os k) lo hi host fixed gates) < weight_bound
-  pub short : (r : ℕ) → r < node_count ns → get_or hi r 0 < length_bound
+pub record Clustered (ns ws os : List ℕ) (k : ℕ) {N : ℕ} (c : Clusters N) : Type 0 where
+  pub n_is : c.n ≡ node_count ns
+  pub fits : Fits (stage_of newest ns ws os k) (clusters_of (stage_of newest ns ws os k) c.lo c.hi c.host c.fixed c.gates) (λ i. get_or c.root i 0) (λ i. get_or c.component i 0)
+  pub components_fall : Falling (node_count ns) c.component
+  pub sources : (r : ℕ) → r < node_count ns → get_or c.sourced r false ≡ source_in ns c.component (node_count ns) r
+  pub light : all_weight (clusters_of (stage_of newest ns ws os k) c.lo c.hi c.host c.fixed c.gates) < weight_bound
+  pub short : (r : ℕ) → r < node_count ns → get_or c.hi r 0 < length_bound

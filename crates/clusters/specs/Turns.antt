@@ -1,13 +1,13 @@
 -- One turn of each of the first passes, and what follows of the arrays that they fill.
 -- Assumes nothing.
-use Rattle.std.specs.Prelude.{ℕ, ◌+◌, ◌*◌, ◌≤◌, ◌<◌, ◌≡◌, refl, Bool, true, false, not, ◌&&◌, ◌||◌, List, length, get_or, set, leb, ltb, eqb}
+use Rattle.std.specs.Prelude.{ℕ, ◌+◌, ◌*◌, ◌≤◌, ◌<◌, ◌≡◌, refl, Bool, true, false, not, ◌&&◌, ◌||◌, cond, List, length, get_or, set, leb, ltb, eqb}
 use Rattle.std.proofs.Common.{sym, ◌∙◌, ap, arith, add-one, length-set, get_or-set_same, get_or-set_other, ltb-true, eqb-true, ne_eqb}
 use Rattle.std.proofs.lemmas.Bool.{eqb-false}
 use Rattle.laws.specs.Sum.{χ, sum}
 use Rattle.laws.specs.Lists.{set-add}
 use Rattle.laws.specs.Sums.{by, and_left, χ-≤, sum-zero, sum_bound, any_next, any_none, up}
 use Rattle.net.specs.Net.{node_count, node_flags, is_gate, wire_parent, wire_layer}
-use Rattle.clusters.specs.FirstPasses.{Wired, is_present, cuttable, whole, leader, Leads, Falling, marked, gathered, gate_of}
+use Rattle.clusters.specs.FirstPasses.{Wired, is_present, cuttable, whole, Leads, Falling, marked, gathered, gate_of}
 
 -- ---- a wire that is present
 pub is_present-positive : (ws : List ℕ) (k i : ℕ) → is_present ws k i ≡ true → 0 < i
@@ -37,25 +37,33 @@ pub filled_more : (i v : ℕ) (f : ℕ → ℕ) (l : List ℕ) → i < length l 
 filled_more i v f l p e h = filled_all (λ j x. x ≡ f j) i v l p e h
 
 -- ---- an array of the nodes that nodes lead to
-module _ (joined : ℕ → Bool) (parent : ℕ → ℕ) where
-  leader-set : (l : List ℕ) (i k v : ℕ) → k ≤ i → (joined k ≡ true → parent k < k) → leader joined parent (set l i v) k ≡ leader joined parent l k
-  leader-set l i k v p lower =
-      by (joined k)
-      (λ y. let b = lower y in rw y (get_or-set_other l i (parent k) v 0 (λ e. native.Mathlib.Nat.lt_irrefl 0 (omega arith))))
-      (λ n. rw n)
+-- a test that each node's wire passes or not, and one node more that leads where it says
+module _ (parent : ℕ → ℕ) (Joined : ℕ → Bool → Type 0) (i v : ℕ) (l : List ℕ) where
+  leader-set : (x : Bool) (k : ℕ) → k ≤ i → (x ≡ true → parent k < k) → cond x (get_or (set l i v) (parent k) 0) k ≡ cond x (get_or l (parent k) 0) k
+  leader-set true k p lower =
+      let b = lower refl in
+      get_or-set_other l i (parent k) v 0 (λ e. native.Mathlib.Nat.lt_irrefl 0 (omega arith))
+  leader-set false k p lower = refl
 
   pub leads_more :
-      (i : ℕ) (l : List ℕ) →
+      (b : Bool) →
       i < length l →
-      ((j : ℕ) → j ≤ i → joined j ≡ true → parent j < j) →
-      Leads i joined parent l →
-      Leads (i + 1) joined parent (set l i (leader joined parent l i))
-  leads_more i l p lower h k q =
-      let v = leader joined parent l i in
+      Joined i b →
+      v ≡ cond b (get_or l (parent i) 0) i →
+      ((k : ℕ) → k ≤ i → Joined k true → parent k < k) →
+      ((k : ℕ) → k < i → (x : Bool) × Joined k x × (get_or l k 0 ≡ cond x (get_or l (parent k) 0) k)) →
+      (k : ℕ) → k < i + 1 → (x : Bool) × Joined k x × (get_or (set l i v) k 0 ≡ cond x (get_or (set l i v) (parent k) 0) k)
+  leads_more b p here e lower h k q =
       by (eqb k i)
-      (λ y. let s = eqb-true k i y in rw s (get_or-set_same l i v 0 p ∙ sym (leader-set l i i v (omega arith) (lower i (omega arith)))))
-      (λ n. let d = eqb-false k i n in get_or-set_other l i k v 0 d ∙ h k (omega arith) ∙ sym (leader-set l i k v (omega arith) (lower k (omega arith))))
+      (λ y.
+      let s = eqb-true k i y in
+      rw s (b, here, get_or-set_same l i v 0 p ∙ (e ∙ sym (leader-set b i (omega arith) (λ t. lower i (omega arith) (rw t at here))))))
+      (λ n.
+      let d = eqb-false k i n in
+      let m = h k (omega arith) in
+      (m.0, m.1, get_or-set_other l i k v 0 d ∙ (m.2 ∙ sym (leader-set m.0 k (omega arith) (λ t. lower k (omega arith) (rw t at m.1))))))
 
+module _ (joined : ℕ → Bool) (parent : ℕ → ℕ) where
   pub leads_falling : (n : ℕ) (l : List ℕ) → ((j : ℕ) → j < n → joined j ≡ true → parent j < j) → Leads n joined parent l → Falling n l
   leads_falling n l lower h =
       up n
@@ -64,6 +72,13 @@ module _ (joined : ℕ → Bool) (parent : ℕ → ℕ) where
       by (joined i)
       (λ y. let a = rw y at (h i p) in let b = lower i p y in let d = less (parent i) b in omega arith)
       (λ n'. let a = rw n' at (h i p) in omega arith))
+
+-- roots and components lie no higher than their nodes
+pub roots_fall : {ns ws : List ℕ} → Wired ns ws → (k : ℕ) (lo root : List ℕ) → Leads (node_count ns) (whole ws k lo) (wire_parent ws) root → Falling (node_count ns) root
+roots_fall {ns} {ws} w k lo root h = leads_falling (whole ws k lo) (wire_parent ws) (node_count ns) root (λ j p. whole-lower w k lo j p) h
+
+pub components_fall : {ns ws : List ℕ} → Wired ns ws → (k : ℕ) (component : List ℕ) → Leads (node_count ns) (is_present ws k) (wire_parent ws) component → Falling (node_count ns) component
+components_fall {ns} {ws} w k component h = leads_falling (is_present ws k) (wire_parent ws) (node_count ns) component (λ j p. is_present-lower w k j p) h
 
 -- ---- an array in which numbers are added up
 pub gathered-more : (i : ℕ) (a : List ℕ) (x : ℕ → ℕ) (r : ℕ) → gathered (i + 1) a x r ≡ gathered i a x r + χ (eqb (get_or a i 0) r) (x i)

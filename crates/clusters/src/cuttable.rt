@@ -14,7 +14,7 @@ fn lowest_of(nodes: &[u8], wires: &[u8], obstacles: &[u8], stage: u8, i: usize) 
     ensures { LowestFree (stage_of newest nodes.now wires.now obstacles.now stage) i result }
 {
     if is_present(stage, wires, i) {
-        return lowest_cuttable(nodes, wires, obstacles, i, 1) as u64;
+        return u64::from(lowest_cuttable(nodes, wires, obstacles, i, 1));
     }
     0
 }
@@ -27,7 +27,7 @@ fn highest_of(nodes: &[u8], wires: &[u8], obstacles: &[u8], stage: u8, i: usize)
     if is_present(stage, wires, i) {
         let length = length_of(nodes, wires, i);
         if 0 < length {
-            return highest_cuttable(nodes, wires, obstacles, i, length - 1) as u64;
+            return u64::from(highest_cuttable(nodes, wires, obstacles, i, length - 1));
         }
     }
     0
@@ -46,11 +46,8 @@ pub fn find_cuttable(
     requires nodes_in_bounds { (node_count nodes.now ≤ length lo.old) × (node_count nodes.now ≤ length hi.old) }
     ensures { Ends (stage_of newest nodes.now wires.now obstacles.now stage) lo.new hi.new }
 {
-    let n = node_count(nodes);
-    let mut i: usize = 0;
-    while i < n {
+    for i in 0..node_count(nodes) {
         lo[i] = lowest_of(nodes, wires, obstacles, stage, i);
         hi[i] = highest_of(nodes, wires, obstacles, stage, i);
-        i += 1;
     }
 }

@@ -11,15 +11,12 @@ pub fn mark_sources(nodes: &[u8], component: &[usize], sourced: &mut [bool])
     requires falling { Falling (node_count nodes.now) component.now }
     ensures { (k : ℕ) → k < node_count nodes.now → get_or sourced.new k false ≡ source_in nodes.now component.now (node_count nodes.now) k }
 {
-    let n = node_count(nodes);
-    let mut i: usize = 0;
-    while i < n {
+    for i in 0..node_count(nodes) {
         // no node below i is in component i: the lowest node of a component is no higher than its nodes
         sourced[i] = false;
         if is_source(node_flags(nodes, i)) {
             sourced[component[i]] = true;
         }
-        i += 1;
     }
 }
 
@@ -28,12 +25,7 @@ fn gate_of(nodes: &[u8], component: &[usize], sourced: &[bool], i: usize) -> u64
     requires { (i < node_count nodes.now) × (i < length component.now) × (get_or component.now i 0 < length sourced.now) }
     ensures { result ≡ gate_of nodes.now component.now sourced.now i }
 {
-    if is_gate(node_flags(nodes, i)) {
-        if !sourced[component[i]] {
-            return 1;
-        }
-    }
-    0
+    u64::from(is_gate(node_flags(nodes, i)) && !sourced[component[i]])
 }
 
 // The gates of each cluster whose components have no source.
@@ -49,13 +41,9 @@ pub fn count_gates(
     requires falling { Falling (node_count nodes.now) root.now × Falling (node_count nodes.now) component.now }
     ensures { (r : ℕ) → r < node_count nodes.now → get_or gates.new r 0 ≡ gathered (node_count nodes.now) root.now (gate_of nodes.now component.now sourced.now) r }
 {
-    let n = node_count(nodes);
-    let mut i: usize = 0;
-    while i < n {
+    for i in 0..node_count(nodes) {
         // no node below i is in cluster i: a root is no higher than its nodes
         gates[i] = 0;
-        let r = root[i];
-        gates[r] += gate_of(nodes, component, sourced, i);
-        i += 1;
+        gates[root[i]] += gate_of(nodes, component, sourced, i);
     }
 }

@@ -3,39 +3,31 @@ ghost use Rattle.std.specs.Prelude.{◌≡◌, false, ℕ, ◌<◌, ◌≤◌, l
 ghost use Rattle.clusters.specs.FirstPasses.{Falling};
 ghost use Rattle.clusters.specs.Hopeless.{hopeless_at, any_hopeless, hopeless_in};
 
+use crate::work::Clusters;
+
 // Cluster r is hopeless. A cluster without such a gate may weigh anything.
-fn is_hopeless(fixed: &[u64], gates: &[u64], limit: u64, r: usize) -> bool
-    requires { (r < length fixed.now) × (r < length gates.now) }
-    ensures { result ≡ hopeless_at fixed.now gates.now limit r }
+fn is_hopeless<const N: usize>(c: &Clusters<N>, limit: u64, r: usize) -> bool
+    requires { r < N }
+    ensures { result ≡ hopeless_at c.now.fixed c.now.gates limit r }
 {
-    0 < gates[r] && limit < fixed[r]
+    0 < c.gates[r] && limit < c.fixed[r]
 }
 
 // Marks the components that have a hopeless cluster, each at its lowest node, and answers whether there is one.
-pub fn find_hopeless(
-    component: &[usize],
-    fixed: &[u64],
-    gates: &[u64],
-    n: usize,
-    limit: u64,
-    hopeless: &mut [bool],
-) -> bool
-    requires n_in_bounds { (n ≤ length component.now) × Falling n component.now }
-    requires n_in_bounds_2 { (n ≤ length fixed.now) × (n ≤ length gates.now) }
-    requires n_in_bounds_3 { n ≤ length hopeless.old }
-    ensures { (result ≡ any_hopeless n fixed.now gates.now limit)
-        × ((k : ℕ) → k < n → get_or hopeless.new k false ≡ hopeless_in n component.now fixed.now gates.now limit k) }
+pub fn find_hopeless<const N: usize>(c: &Clusters<N>, limit: u64, hopeless: &mut [bool]) -> bool
+    requires falling { Falling c.now.n c.now.component }
+    requires hopeless_in_bounds { c.now.n ≤ length hopeless.old }
+    ensures { (result ≡ any_hopeless c.now.n c.now.fixed c.now.gates limit)
+        × ((k : ℕ) → k < c.now.n → get_or hopeless.new k false ≡ hopeless_in c.now.n c.now.component c.now.fixed c.now.gates limit k) }
 {
     let mut some = false;
-    let mut r: usize = 0;
-    while r < n {
+    for r in 0..c.n {
         // no cluster below r is in component r: the lowest node of a component is no higher than its nodes
         hopeless[r] = false;
-        if is_hopeless(fixed, gates, limit, r) {
-            hopeless[component[r]] = true;
+        if is_hopeless(c, limit, r) {
+            hopeless[c.component[r]] = true;
             some = true;
         }
-        r += 1;
     }
     some
 }

@@ -8,3 +8,4 @@ pub mod hopeless;
 pub mod roots;
 pub mod stretch;
 pub mod weights;
+pub mod work;

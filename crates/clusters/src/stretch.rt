@@ -12,7 +12,7 @@ pub fn weight_of_step(wires: &[u8], i: usize) -> u64
     requires { (0 < i) × (wire_bytes * i ≤ length wires.now) }
     ensures { (result ≡ wire_factor wires.now i) × (result < factor_bound) }
 {
-    wire_factor(wires, i) as u64
+    u64::from(wire_factor(wires, i))
 }
 
 // The weight of a wire from one position to another.

@@ -3,7 +3,8 @@ ghost use Rattle.std.specs.Prelude.{◌≡◌, ℕ, ◌+◌, ◌<◌, ◌≤◌,
 ghost use Rattle.net.specs.Net.{node_count, wire_length};
 ghost use Rattle.clusters.specs.FirstPasses.{Wired, EndsInside, Falling, gathered, lower_weight, upper_weight};
 
-use net::fields::{is_present, node_count, wire_factor};
+use crate::stretch::weight_of_step;
+use net::fields::{is_present, node_count};
 use points::length_of;
 
 // What wire i gives to the cluster at its lower end.
@@ -12,14 +13,15 @@ fn lower_weight(nodes: &[u8], wires: &[u8], stage: u8, lo: &[u64], i: usize) -> 
     requires i_bound { 0 < get_or lo.now i 0 → get_or lo.now i 0 ≤ wire_length nodes.now wires.now i }
     ensures { result ≡ lower_weight nodes.now wires.now stage lo.now i }
 {
-    if is_present(stage, wires, i) {
-        let factor = wire_factor(wires, i) as u64;
-        if 0 < lo[i] {
-            return lo[i] * factor;
-        }
-        return (length_of(nodes, wires, i) as u64) * factor;
+    if !is_present(stage, wires, i) {
+        return 0;
     }
-    0
+    let length = if 0 < lo[i] {
+        lo[i]
+    } else {
+        u64::from(length_of(nodes, wires, i))
+    };
+    length * weight_of_step(wires, i)
 }
 
 // And to the cluster at its upper end.
@@ -28,11 +30,10 @@ fn upper_weight(nodes: &[u8], wires: &[u8], lo: &[u64], hi: &[u64], i: usize) ->
     requires i_nonzero { (0 < get_or lo.now i 0 → 0 < i) × (0 < get_or lo.now i 0 → get_or hi.now i 0 ≤ wire_length nodes.now wires.now i) }
     ensures { result ≡ upper_weight nodes.now wires.now lo.now hi.now i }
 {
-    if 0 < lo[i] {
-        let above = (length_of(nodes, wires, i) as u64) - hi[i];
-        return above * (wire_factor(wires, i) as u64);
+    if lo[i] == 0 {
+        return 0;
     }
-    0
+    (u64::from(length_of(nodes, wires, i)) - hi[i]) * weight_of_step(wires, i)
 }
 
 // The weight that no cut takes away from each cluster.
@@ -55,15 +56,10 @@ pub fn weigh_clusters(
         ≡ gathered (node_count nodes.now) root.now (lower_weight nodes.now wires.now stage lo.now) r
         + gathered (node_count nodes.now) host.now (upper_weight nodes.now wires.now lo.now hi.now) r }
 {
-    let n = node_count(nodes);
-    let mut i: usize = 0;
-    while i < n {
+    for i in 0..node_count(nodes) {
         // no wire below i gives to cluster i: roots and hosts are no higher than their nodes
         fixed[i] = 0;
-        let r = root[i];
-        fixed[r] += lower_weight(nodes, wires, stage, lo, i);
-        let h = host[i];
-        fixed[h] += upper_weight(nodes, wires, lo, hi, i);
-        i += 1;
+        fixed[root[i]] += lower_weight(nodes, wires, stage, lo, i);
+        fixed[host[i]] += upper_weight(nodes, wires, lo, hi, i);
     }
 }

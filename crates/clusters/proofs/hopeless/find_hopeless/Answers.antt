@@ -1,53 +1,39 @@
 -- `clusters::hopeless::find_hopeless` meets its contract: the components below r are marked by the clusters below r. Assumes nothing.
-use Prim.Native.Nat.{ℕ}
-use mathlib.Core.Path.{◌≡◌, refl, sym, ◌∙◌, ap}
-use mathlib.Core.Bool.{Bool, true, false, ◌||◌}
-use native.Mathlib.Omega.{arith}
-use lib.ListN.{length, get_or, set, length-set}
+use Rattle.std.proofs.Common.{◌≡◌, Bool, true, false, ◌||◌, ◌+◌, refl, sym, ◌∙◌, arith}
 use Rattle.laws.specs.Sum.{any}
 use Rattle.laws.specs.Sums.{any_next, or_right}
+use Rattle.clusters.specs.FirstPasses.{Falling}
 use Rattle.clusters.specs.Turns.{mark_here, mark_not}
-use Rattle.clusters.specs.Hopeless.{hopeless_at, any_hopeless, hopeless_in}
+use Rattle.clusters.specs.Hopeless.{hopeless_at, any_hopeless}
 use Rattle.clusters.proofs.hopeless.find_hopeless.Goals as goal
 use Rattle.clusters.proofs.hopeless.find_hopeless.Goals.{then-is_hopeless, else-is_hopeless}
 
+or-none : (a : Bool) {b : Bool} → b ≡ false → (a || b) ≡ a
+or-none true e = refl
+or-none false e = e
+
 pub loop-r-init : goal.loop-r-init
 unfolding any
-loop-r-init c = (omega arith, omega arith, λ k p. absurd (native.Mathlib.Nat.lt_irrefl 0 (omega arith)), refl)
-
-pub is_hopeless-requires : goal.is_hopeless-requires
-is_hopeless-requires c = (omega arith, omega arith)
-
-pub bounds-hopeless-component : goal.bounds-hopeless-component
-bounds-hopeless-component c =
-    let l = c.loop-r in
-    let f = c.requires.n_in_bounds.1 l.r (omega arith) in
-    rw (length-set l.hopeless l.r false) (omega arith)
+loop-r-init g c = record { marks = λ k p. absurd (omega arith); some_is = refl }
 
 pub loop-r-preserved : goal.loop-r-preserved
-loop-r-preserved c =
+loop-r-preserved g c =
     let l = c.loop-r in
-    let component = c.args.component.now in
-    let test = hopeless_at c.args.fixed.now c.args.gates.now c.args.limit in
-    let more = any_next l.r test in (
-      omega arith,
-      elim c.if-is_hopeless.branch [ then-is_hopeless w ↦ ap length w.hopeless-is ∙ (length-set (set l.hopeless l.r false) (get_or component l.r 0) _ ∙ (length-set l.hopeless l.r false ∙ l.invariant.1)) | else-is_hopeless w ↦ ap length w.hopeless-is ∙ (length-set l.hopeless l.r false ∙ l.invariant.1) ],
-      elim c.if-is_hopeless.branch [ then-is_hopeless w ↦ rw w.hopeless-is (mark_here component test l.r l.hopeless (omega arith) (λ j p. c.requires.n_in_bounds.1 j (omega arith)) l.invariant.2 (sym c.is_hopeless.ensures ∙ w.if-is_hopeless.true)) | else-is_hopeless w ↦ rw w.hopeless-is (mark_not component test l.r l.hopeless (omega arith) (λ j p. c.requires.n_in_bounds.1 j (omega arith)) l.invariant.2 (sym c.is_hopeless.ensures ∙ w.if-is_hopeless.false)) ],
-      elim c.if-is_hopeless.branch [ then-is_hopeless w ↦ w.some-is ∙ sym (more ∙ or_right (any_hopeless l.r c.args.fixed.now c.args.gates.now c.args.limit) (sym c.is_hopeless.ensures ∙ w.if-is_hopeless.true)) | else-is_hopeless w ↦ w.some-is ∙ (l.invariant.3 ∙ sym (more ∙ or-none (any_hopeless l.r c.args.fixed.now c.args.gates.now c.args.limit) (sym c.is_hopeless.ensures ∙ w.if-is_hopeless.false))) ],
-    )
-  where
-    or-none : (a : Bool) {b : Bool} → b ≡ false → (a || b) ≡ a
-    or-none true e = refl
-    or-none false e = e
-
-pub shape_of-hopeless : goal.shape_of-hopeless
-shape_of-hopeless c = c.loop-r.invariant.1
-
-pub returns : goal.returns
-returns c =
-    let l = c.loop-r in
-    let a = c.args in
-    let e : l.r ≡ a.n = omega arith in (
-      l.invariant.3 ∙ ap (λ (m : ℕ). any_hopeless m a.fixed.now a.gates.now a.limit) e,
-      λ k p. l.invariant.2 k (omega arith) ∙ ap (λ (m : ℕ). hopeless_in m a.component.now a.fixed.now a.gates.now a.limit k) e,
-    )
+    let a = c.args.c.now in
+    let test = hopeless_at a.fixed a.gates c.args.limit in
+    let more = any_next l.r test in
+    let falling : Falling (l.r + 1) a.component = λ j p. c.requires.falling j (omega arith) in
+    elim c.if-is_hopeless.branch [
+      | then-is_hopeless w ↦
+          let is = sym c.is_hopeless.ensures ∙ w.if-is_hopeless.true in
+          record {
+            marks = rw w.hopeless-is (mark_here a.component test l.r l.hopeless (omega arith) falling l.invariant.marks is);
+            some_is = w.some-is ∙ sym (more ∙ or_right (any_hopeless l.r a.fixed a.gates c.args.limit) is);
+          }
+      | else-is_hopeless w ↦
+          let not = sym c.is_hopeless.ensures ∙ w.if-is_hopeless.false in
+          record {
+            marks = rw w.hopeless-is (mark_not a.component test l.r l.hopeless (omega arith) falling l.invariant.marks not);
+            some_is = w.some-is ∙ (l.invariant.some_is ∙ sym (more ∙ or-none (any_hopeless l.r a.fixed a.gates c.args.limit) not));
+          }
+    ]

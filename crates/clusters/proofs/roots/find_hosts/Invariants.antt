@@ -1,12 +1,7 @@
 -- `clusters::roots::find_hosts` meets its contract: below i the array has the hosts. Assumes nothing.
-use Prim.Native.Nat.{ℕ, ◌-◌, ◌≤◌, ◌<◌}
-use mathlib.Core.Path.{◌≡◌}
-use lib.ListN.{length, get_or}
+use Rattle.std.proofs.Common.{ℕ, ◌<◌, ◌≡◌, get_or}
 use Rattle.clusters.specs.FirstPasses.{host_of}
 use Rattle.clusters.proofs.roots.find_hosts.Given as goal
 
 abbrev pub invariant-loop-i : goal.invariant-loop-i
-invariant-loop-i l = (l.i ≤ l.n) × (length l.host ≡ length l.initial.host) × ((j : ℕ) → j < l.i → get_or l.host j 0 ≡ host_of l.wires l.lo l.root j)
-
-abbrev pub decreases-loop-i : goal.decreases-loop-i
-decreases-loop-i l = l.n - l.i
+invariant-loop-i l = (j : ℕ) → j < l.i → get_or l.host j 0 ≡ host_of l.wires l.lo l.root j

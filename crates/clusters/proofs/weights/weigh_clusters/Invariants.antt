@@ -1,14 +1,7 @@
 -- `clusters::weights::weigh_clusters` meets its contract: the clusters below i have the weight of the wires below i. Assumes nothing.
-use Prim.Native.Nat.{ℕ, ◌+◌, ◌-◌, ◌≤◌, ◌<◌}
-use mathlib.Core.Path.{◌≡◌}
-use lib.ListN.{length, get_or}
+use Rattle.std.proofs.Common.{ℕ, ◌+◌, ◌<◌, ◌≡◌, get_or}
 use Rattle.clusters.specs.FirstPasses.{gathered, lower_weight, upper_weight}
 use Rattle.clusters.proofs.weights.weigh_clusters.Given as goal
 
 abbrev pub invariant-loop-i : goal.invariant-loop-i
-invariant-loop-i l =
-    (l.i ≤ l.n) × (length l.fixed ≡ length l.initial.fixed)
-    × ((r : ℕ) → r < l.i → get_or l.fixed r 0 ≡ gathered l.i l.root (lower_weight l.nodes l.wires l.stage l.lo) r + gathered l.i l.host (upper_weight l.nodes l.wires l.lo l.hi) r)
-
-abbrev pub decreases-loop-i : goal.decreases-loop-i
-decreases-loop-i l = l.n - l.i
+invariant-loop-i l = (r : ℕ) → r < l.i → get_or l.fixed r 0 ≡ gathered l.i l.root (lower_weight l.nodes l.wires l.stage l.lo) r + gathered l.i l.host (upper_weight l.nodes l.wires l.lo l.hi) r

@@ -1,0 +1,24 @@
+// The work arrays that the first passes of repair fill.
+ghost use Rattle.std.specs.Prelude.{◌≤◌};
+
+// What the first passes find of a net with at most N nodes.
+#[derive(Drop)]
+pub struct Clusters<const N: usize> {
+    // the number of nodes: an entry for each node below it
+    pub n: usize,
+    ghost few: { n ≤ N },
+    // the lowest and the highest point of each wire that may be cut, 0 where there is none
+    pub lo: [u64; N],
+    pub hi: [u64; N],
+    // the lowest node of each node's cluster
+    pub root: [usize; N],
+    // the root of the cluster that a branch hangs on, 0 for a node that is no branch
+    pub host: [usize; N],
+    // the lowest node of each node's uncut component
+    pub component: [usize; N],
+    // whether the component with that lowest node has a source
+    pub sourced: [bool; N],
+    // for each root, the weight that no cut takes away and the gates that a piece may harm; 0 elsewhere
+    pub fixed: [u64; N],
+    pub gates: [u64; N],
+}
