@@ -1,6 +1,6 @@
 -- What climbing a branch's wire establishes.
 -- Assumes nothing.
-use Rattle.std.specs.Prelude.{ℕ, ◌+◌, ◌*◌, ◌≤◌, ◌<◌, ◌≡◌, Bool, true, false, not, ◌&&◌, List, leb, ltb}
+use Rattle.std.specs.Prelude.{ℕ, ◌+◌, ◌*◌, ◌≤◌, ◌<◌, ◌≡◌, Bool, true, false, not, ◌&&◌, None, List, leb, ltb, is_some, unwrap_or}
 use Rattle.net.specs.Layout.{newest, most_nodes}
 use Rattle.net.specs.Limits.{weight_bound}
 use Rattle.net.specs.Net.{wire_factor, wire_length, barred}
@@ -10,6 +10,7 @@ use Rattle.cuts.specs.Cluster.{Clusters}
 use Rattle.cuts.specs.Passes.{Down, Climbed}
 use Rattle.counting.specs.declared.close.Closing.{Closing}
 use Rattle.counting.specs.declared.climb.Climbing.{Climbing}
+use Rattle.counting.specs.Close.{any_weight, ungated_ok, ungated_weight}
 
 -- position t lies inside wire i, and no obstacle bars it
 unfoldable pub open_at : List ℕ → List ℕ → List ℕ → ℕ → ℕ → Bool
@@ -52,22 +53,22 @@ climbing_of x y =
       cut_any = λ j. false;
       fewest = λ r. x.fewest;
       any_ok = λ r. false;
-      any_weight = λ r. x.any_weight;
-      ungated_ok = λ r. x.ungated_ok;
-      ungated_weight = λ r. x.ungated_weight;
+      any_weight = λ r. any_weight x.options;
+      ungated_ok = λ r. ungated_ok x.options;
+      ungated_weight = λ r. ungated_weight x.options;
       count = λ j. y.count;
       lightest = λ j. y.lightest;
-      has_ungated = λ j. y.has_ungated;
-      ungated = λ j. y.ungated;
-      near = λ j. y.near;
+      has_ungated = λ j. is_some y.ungated;
+      ungated = λ j. unwrap_or y.ungated 0;
+      near = λ j. unwrap_or y.near 0;
     }
 
 -- the numbers of a closed cluster are small, and without the ungated option its weight is within the limit
 pub record Closable (limit : ℕ) (x : Closing) : Type 0 where
   pub few : x.fewest ≤ 3 * most_nodes
-  pub light : x.any_weight < weight_bound
-  pub ungated_light : x.ungated_ok ≡ true → x.ungated_weight < weight_bound
-  pub within : x.ungated_ok ≡ false → x.any_weight ≤ limit
+  pub light : any_weight x.options < weight_bound
+  pub ungated_light : ungated_ok x.options ≡ true → ungated_weight x.options < weight_bound
+  pub within : ungated_ok x.options ≡ false → any_weight x.options ≤ limit
 
 -- what climbing the wire of branch i establishes
 abbrev pub Climbs : List ℕ → List ℕ → List ℕ → ℕ → ℕ → ℕ → ℕ → Closing → Climbing → Type 0
@@ -76,4 +77,4 @@ Climbs ns ws os i lo hi limit x y = Climbed (wire_of ns ws os lo hi) limit (clim
 -- the same of any wire i: without a point that may be cut it has no jumper
 pub record ClimbsAt (ns ws os : List ℕ) (i lo hi limit : ℕ) (x : Closing) (y : Climbing) : Type 0 where
   pub climbed : 0 < lo → Climbs ns ws os i lo hi limit x y
-  pub none : lo ≡ 0 → y.near ≡ 0
+  pub none : lo ≡ 0 → y.near ≡ None

@@ -1,6 +1,6 @@
 -- Why the highest open position up to a bound is the last within the limit, and the endings of a climb.
 -- Assumes nothing.
-use Rattle.std.specs.Prelude.{ℕ, ◌+◌, ◌-◌, ◌*◌, ◌/◌, ◌≤◌, ◌<◌, ◌≡◌, refl, true, false, ◌&&◌, List, leb, ltb}
+use Rattle.std.specs.Prelude.{ℕ, ◌+◌, ◌-◌, ◌*◌, ◌/◌, ◌≤◌, ◌<◌, ◌≡◌, refl, true, false, ◌&&◌, None, Some, List, leb, ltb}
 use Rattle.std.proofs.Math.Bool.{not}
 use Rattle.std.proofs.Common.{arith, mul-le-mul_left}
 use Rattle.std.proofs.Math.Nat.{mul-div-le, lt-mul-div-succ, lt_of_mul-lt-mul_left}
@@ -13,6 +13,7 @@ use Rattle.cuts.specs.Passes.{without-gate, within_limit, with-jumper}
 use Rattle.clusters.specs.Stretch.{stretch_weight}
 use Rattle.counting.specs.declared.close.Closing.{Closing}
 use Rattle.counting.specs.declared.climb.Climbing.{Climbing}
+use Rattle.counting.specs.Close.{any_weight, ungated_ok, ungated_weight}
 use Rattle.counting.specs.Climb.{open_at, Branch, LastWithin, Climbs}
 
 module _ (ns ws os : List ℕ) (i : ℕ) where
@@ -91,31 +92,31 @@ steps-inside ns ws os i lo hi weight limit b w l =
 -- ---- the endings of a climb
 module _ (ns ws os : List ℕ) (i lo hi limit : ℕ) (x : Closing) (y : Climbing) where
   pub climbs_light :
-      x.ungated_ok ≡ true →
-      x.any_weight + stretch_weight ws i lo hi ≤ limit →
-      y ≡ record { count = x.fewest; lightest = x.any_weight + stretch_weight ws i lo hi; has_ungated = true; ungated = x.ungated_weight + stretch_weight ws i lo hi; near = 0 } →
+      ungated_ok x.options ≡ true →
+      any_weight x.options + stretch_weight ws i lo hi ≤ limit →
+      y ≡ record { count = x.fewest; lightest = any_weight x.options + stretch_weight ws i lo hi; ungated = Some (ungated_weight x.options + stretch_weight ws i lo hi); near = None } →
       Climbs ns ws os i lo hi limit x y
   climbs_light o h e = rw e (without-gate o refl refl refl refl (rw (le-leb _ _ h)))
 
   pub climbs_ungated :
-      x.ungated_ok ≡ true →
-      limit < x.any_weight + stretch_weight ws i lo hi →
-      y ≡ record { count = x.fewest; lightest = x.ungated_weight + stretch_weight ws i lo hi; has_ungated = true; ungated = x.ungated_weight + stretch_weight ws i lo hi; near = 0 } →
+      ungated_ok x.options ≡ true →
+      limit < any_weight x.options + stretch_weight ws i lo hi →
+      y ≡ record { count = x.fewest; lightest = ungated_weight x.options + stretch_weight ws i lo hi; ungated = Some (ungated_weight x.options + stretch_weight ws i lo hi); near = None } →
       Climbs ns ws os i lo hi limit x y
   climbs_ungated o h e = rw e (without-gate o refl refl refl refl (rw (lt-leb _ _ h)))
 
   pub climbs_within :
-      x.ungated_ok ≡ false →
-      x.any_weight + stretch_weight ws i lo hi ≤ limit →
-      y ≡ record { count = x.fewest; lightest = x.any_weight + stretch_weight ws i lo hi; has_ungated = false; ungated = 0; near = 0 } →
+      ungated_ok x.options ≡ false →
+      any_weight x.options + stretch_weight ws i lo hi ≤ limit →
+      y ≡ record { count = x.fewest; lightest = any_weight x.options + stretch_weight ws i lo hi; ungated = None; near = None } →
       Climbs ns ws os i lo hi limit x y
   climbs_within o h e = rw e (within_limit o h refl refl refl refl)
 
   pub climbs_jumper :
       (near : ℕ) →
-      x.ungated_ok ≡ false →
-      limit < x.any_weight + stretch_weight ws i lo hi →
-      LastWithin ns ws os i lo hi x.any_weight limit near →
-      y ≡ record { count = x.fewest + 1; lightest = stretch_weight ws i near hi; has_ungated = true; ungated = stretch_weight ws i near hi; near = near } →
+      ungated_ok x.options ≡ false →
+      limit < any_weight x.options + stretch_weight ws i lo hi →
+      LastWithin ns ws os i lo hi (any_weight x.options) limit near →
+      y ≡ record { count = x.fewest + 1; lightest = stretch_weight ws i near hi; ungated = Some (stretch_weight ws i near hi); near = Some near } →
       Climbs ns ws os i lo hi limit x y
   climbs_jumper near o h l e = rw e (with-jumper o h refl l.is_open l.within l.highest refl refl refl)

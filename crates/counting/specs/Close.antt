@@ -1,13 +1,24 @@
 -- What closing a cluster establishes, over the work arrays of the pass down.
 -- Assumes nothing.
-use Rattle.std.specs.Prelude.{ℕ, ◌+◌, ◌*◌, ◌≤◌, ◌<◌, ◌≡◌, ◌⊎◌, Bool, true, false, not, ◌&&◌, List, length, get_or, ltb, eqb}
+use Rattle.std.specs.Prelude.{ℕ, ◌+◌, ◌*◌, ◌≤◌, ◌<◌, ◌≡◌, ◌⊎◌, Bool, true, false, not, ◌&&◌, Option, None, Some, List, length, get_or, ltb, eqb}
 use Rattle.laws.specs.Sum.{χ, sum}
 use Rattle.cuts.specs.Cluster.{Clusters}
 use Rattle.net.specs.Layout.{most_nodes}
 use Rattle.net.specs.Limits.{weight_bound}
 use Rattle.cuts.specs.Passes.{Down, Closed}
-use Rattle.counting.specs.declared.close.Cluster.{Cluster}
+use Rattle.counting.specs.declared.close.Options.{Options}
+use Rattle.counting.specs.declared.close.Options.TheVariants.{Any, Ungated, Either}
 use Rattle.counting.specs.declared.close.Closing.{Closing}
+
+-- a cluster to be closed: its lowest node, the weight that no cut takes away, and the number of its gates
+pub record Cluster : Type 0 where
+  pub lowest : ℕ
+  pub fixed : ℕ
+  pub gates : ℕ
+
+-- cluster r by the work arrays
+abbrev pub cluster_at : List ℕ → List ℕ → ℕ → Cluster
+cluster_at fixed gates r = record { lowest = r; fixed = get_or fixed r 0; gates = get_or gates r 0 }
 
 -- branch j hangs on cluster r
 abbrev pub hung : List ℕ → List ℕ → ℕ → ℕ → Bool
@@ -55,6 +66,11 @@ pub record Heaviest (n : ℕ) (lo host lightest : List ℕ) (cut_any : List Bool
   pub most : (j : ℕ) → j < n → hung lo host r j ≡ true → get_or cut_any j false ≡ false → get_or lightest j 0 ≤ weight
   pub one : (weight ≡ 0) ⊎ Uncut n lo host lightest cut_any r at weight
 
+-- the heaviest branch of cluster r that is not cut, if one weighs more than 0
+abbrev pub HeaviestBranch : ℕ → List ℕ → List ℕ → List ℕ → List Bool → ℕ → Option ℕ → Type 0
+HeaviestBranch n lo host lightest cut_any r None = Heaviest n lo host lightest cut_any r 0 0
+HeaviestBranch n lo host lightest cut_any r (Some at) = Heaviest n lo host lightest cut_any r at (get_or lightest at 0)
+
 -- the heaviest branches of cluster r are cut, cuts in number, and left is the weight that stays; with one cut fewer the limit is passed
 pub record Cutting (n : ℕ) (lo host lightest : List ℕ) (before cut_any : List Bool) (r fixed limit cuts left : ℕ) : Type 0 where
   pub long : length cut_any ≡ length before
@@ -73,16 +89,36 @@ pub record Room (n : ℕ) (lo host count lightest : List ℕ) (has_ungated : Lis
   pub weights : k.fixed + branch_sum n lo host k.lowest lightest < weight_bound
   pub ungated_weights : k.fixed + flagged_sum n lo host k.lowest has_ungated ungated < weight_bound
 
+-- which options reach the fewest points, and the weight that each leaves: the any-option's is the other one's where that alone is there, the ungated one's is 0 where it is not there
+abbrev pub any_ok : Options → Bool
+any_ok (Any weight) = true
+any_ok (Ungated weight) = false
+any_ok (Either any ungated) = true
+
+abbrev pub any_weight : Options → ℕ
+any_weight (Any weight) = weight
+any_weight (Ungated weight) = weight
+any_weight (Either any ungated) = any
+
+abbrev pub ungated_ok : Options → Bool
+ungated_ok (Any weight) = false
+ungated_ok (Ungated weight) = true
+ungated_ok (Either any ungated) = true
+
+abbrev pub ungated_weight : Options → ℕ
+ungated_weight (Any weight) = 0
+ungated_weight (Ungated weight) = weight
+ungated_weight (Either any ungated) = ungated
+
 -- the any-option alone reaches the fewest points; the ungated one alone; or both
 abbrev pub only_any : ℕ → ℕ → Closing
-only_any fewest weight = record { fewest = fewest; any_ok = true; any_weight = weight; ungated_ok = false; ungated_weight = 0 }
+only_any fewest weight = record { fewest = fewest; options = Any weight }
 
 abbrev pub only_ungated : ℕ → ℕ → Closing
-only_ungated fewest weight = record { fewest = fewest; any_ok = false; any_weight = weight; ungated_ok = true; ungated_weight = weight }
+only_ungated fewest weight = record { fewest = fewest; options = Ungated weight }
 
 abbrev pub both_options : ℕ → ℕ → ℕ → Closing
-both_options fewest any_weight ungated_weight =
-    record { fewest = fewest; any_ok = true; any_weight = any_weight; ungated_ok = true; ungated_weight = ungated_weight }
+both_options fewest any_weight ungated_weight = record { fewest = fewest; options = Either any_weight ungated_weight }
 
 -- the options compared: with below points below the branches, the any-option cuts cuts of them and leaves left, the ungated one cuts gated and leaves weight
 pub data Compared (below cuts left gated weight gates : ℕ) (x : Closing) : Type 0 where
@@ -111,10 +147,10 @@ closing_of cut_any count lightest has_ungated ungated x =
     record {
       cut_any = λ j. get_or cut_any j false;
       fewest = λ r. x.fewest;
-      any_ok = λ r. x.any_ok;
-      any_weight = λ r. x.any_weight;
-      ungated_ok = λ r. x.ungated_ok;
-      ungated_weight = λ r. x.ungated_weight;
+      any_ok = λ r. any_ok x.options;
+      any_weight = λ r. any_weight x.options;
+      ungated_ok = λ r. ungated_ok x.options;
+      ungated_weight = λ r. ungated_weight x.options;
       count = λ j. get_or count j 0;
       lightest = λ j. get_or lightest j 0;
       has_ungated = λ j. get_or has_ungated j false;

@@ -6,9 +6,8 @@ use Rattle.std.proofs.Common.{inl, inr, true≢false, arith, ltb-true, ltb-false
 use Rattle.std.proofs.Math.Logic.{⊎_map}
 use Rattle.laws.specs.Sums.{by}
 use Rattle.cuts.specs.Passes.{Largest, Closed, only-any, both, only-ungated}
-use Rattle.counting.specs.declared.close.Cluster.{Cluster}
 use Rattle.counting.specs.declared.close.Closing.{Closing}
-use Rattle.counting.specs.Close.{branch_sum, flagged_count, flagged_sum, clear_count, clear_sum, Cutting, Compared, any-alone, ungated-alone, equal, only_ungated, branches_of, closing_of}
+use Rattle.counting.specs.Close.{Cluster, branch_sum, flagged_count, flagged_sum, clear_count, clear_sum, Cutting, Compared, any-alone, ungated-alone, equal, only_any, only_ungated, both_options, branches_of, closing_of}
 
 -- a cluster that is not hopeless and whose fixed weight is over the limit has no gate
 pub no-gate : (gates fixed limit : ℕ) → (0 < gates → fixed ≤ limit) → limit < fixed → gates ≡ 0
@@ -78,7 +77,7 @@ module _ (n : ℕ) (lo host count lightest : List ℕ) (has_ungated : List Bool)
     unfolding flagged_count flagged_sum clear_count clear_sum branch_sum
     ends_compared {cuts} {left} x o f (any-alone g e) =
         rw e
-        (only-any o.θ (largest _ cuts left o f)
+        (only-any o.θ (largest (only_any (below + cuts) left) cuts left o f)
         (⊎_map (λ z. z) (λ z. let d = o.cuts_is in omega arith) g)
         (let d = o.cuts_is in omega arith)
         refl
@@ -87,7 +86,7 @@ module _ (n : ℕ) (lo host count lightest : List ℕ) (has_ungated : List Bool)
     ends_compared {cuts} {left} x o f (ungated-alone g l e) = ends-ungated g (inr (cuts, left, o, f, l)) x e
     ends_compared {cuts} {left} x o f (equal g l e) =
         rw e
-        (both o.θ (largest _ cuts left o f)
+        (both o.θ (largest (both_options (below + cuts) left weight) cuts left o f)
         g
         (let d = o.cuts_is in omega arith)
         (let d = o.cuts_is in omega arith)

@@ -10,9 +10,8 @@ use Rattle.laws.specs.Sums.{by, no_both, and_left, and_right, χ-≤, χ-and, χ
 use Rattle.cuts.specs.Cluster.{Clusters, Sound, hangs}
 use Rattle.cuts.specs.Passes.{Down, Closed, only-any, both, only-ungated, Climbed, Counted, any_cuts, ungated_cuts, any_left}
 use Rattle.net.specs.Limits.{weight_bound}
-use Rattle.counting.specs.declared.close.Cluster.{Cluster}
 use Rattle.counting.specs.declared.close.Closing.{Closing}
-use Rattle.counting.specs.Close.{hung, branch_sum, flagged_sum, Room, branches_of, closing_of}
+use Rattle.counting.specs.Close.{Cluster, hung, branch_sum, flagged_sum, Room, branches_of, closing_of}
 use Rattle.counting.specs.Climb.{Closable}
 use Rattle.counting.specs.CountFrame.{SameCluster, SameBranch, closed_same, climbed-same}
 

@@ -1,13 +1,16 @@
 -- The sum of the points found.
 -- Assumes nothing.
-use Rattle.std.specs.Prelude.{ℕ, ◌+◌, ◌*◌, ◌≤◌, ◌<◌, ◌≡◌, refl, Bool, not, List, get_or, ltb}
+use Rattle.std.specs.Prelude.{ℕ, ◌+◌, ◌*◌, ◌≤◌, ◌<◌, ◌≡◌, refl, not, List, get_or, ltb}
 use Rattle.std.proofs.Common.{arith, lt-ltb, le-ltb}
 use Rattle.laws.specs.Sum.{χ, sum}
 use Rattle.laws.specs.Sums.{sum-next, sum_next-≤}
 use Rattle.cuts.specs.Passes.{total_fewest}
 use Rattle.cuts.specs.Bounds.{total-≤}
 use Rattle.clusters.specs.Arrays.{down_of}
-use Rattle.counting.specs.Count.{work_clusters, Ready, CountedFrom, root_sum}
+use Rattle.clusters.specs.declared.work.Clusters as work
+use Rattle.counting.specs.declared.work.Counts.{Counts}
+use Rattle.counting.specs.declared.work.Branches.{Branches}
+use Rattle.counting.specs.Count.{work_clusters, Ready, found, CountedFrom, root_sum}
 
 -- one more cluster
 module _ (lo fewest : List ℕ) (r : ℕ) where
@@ -35,14 +38,10 @@ roots-none lo fewest = refl
 
 -- the points found are few
 pub roots_few :
-    (n : ℕ) (ns ws os lo hi host fixed gates : List ℕ) →
-    Ready n ns ws os lo hi host fixed gates →
-    (limit : ℕ) (cut_any : List Bool) (fewest : List ℕ) (any_ok : List Bool) (any_weight count lightest : List ℕ) (has_ungated : List Bool) (ungated near : List ℕ) →
-    CountedFrom (work_clusters n ns ws os lo hi host fixed gates) limit cut_any fewest any_ok any_weight count lightest has_ungated ungated near 0 →
-    root_sum n lo fewest ≤ 2 * n
+    (ns ws os : List ℕ) {N : ℕ} (c : work.Clusters N) →
+    Ready ns ws os c →
+    (limit : ℕ) (k : Counts N) (b : Branches N) →
+    CountedFrom (work_clusters ns ws os c) limit k b 0 →
+    root_sum c.n c.lo k.fewest ≤ 2 * c.n
 unfolding root_sum total_fewest work_clusters down_of
-roots_few n ns ws os lo hi host fixed gates ready limit cut_any fewest any_ok any_weight count lightest has_ungated ungated near k =
-    total-≤ (work_clusters n ns ws os lo hi host fixed gates) limit
-    (down_of cut_any fewest any_ok any_weight k.ungated_ok k.ungated_weight count lightest has_ungated ungated near)
-    ready.sound
-    k.counted
+roots_few ns ws os c ready limit k b w = total-≤ (work_clusters ns ws os c) limit (found k b w.ungated_ok w.ungated_weight) ready.sound w.counted

@@ -1,4 +1,3 @@
-pub mod Lengths
 pub mod Close
 pub mod CloseSums
 pub mod CloseCutting

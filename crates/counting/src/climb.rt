@@ -1,21 +1,21 @@
 // Climbing a branch's wire in the pass down: what the branch then adds to its host, with a jumper of its own where it must.
 ghost use Rattle.std.specs.Prelude.{◌+◌, ◌<◌, ◌≤◌};
 ghost use Rattle.clusters.specs.Stretch.{stretch_weight};
+ghost use Rattle.counting.specs.Close.{any_weight};
 ghost use Rattle.counting.specs.Climb.{Branch, LastWithin, Climbs, ClimbsAt, Closable};
 
-use crate::close::Closing;
+use crate::close::{Closing, Options};
 use clusters::stretch::{stretch_weight, weight_of_step};
 use points::highest_cuttable;
 
-// What climbing a branch's wire finds: the fewest points below and on it; the least weight that it then adds to its host; the least without a gate, if that can be had, else 0;
-// the position of its own jumper, or 0 for none.
+// What climbing a branch's wire finds: the fewest points below and on it; the least weight that it then adds to its host; the least without a gate, if that can be had;
+// the position of its own jumper, if it has one.
 #[derive(Clone, Copy)]
 pub struct Climbing {
     pub count: u64,
     pub lightest: u64,
-    pub has_ungated: bool,
-    pub ungated: u64,
-    pub near: u64,
+    pub ungated: Option<u64>,
+    pub near: Option<u64>,
 }
 
 // The highest cuttable position of a branch's wire up to which its piece is within the limit.
@@ -34,7 +34,7 @@ fn last_within(
     ensures { LastWithin nodes.now wires.now obstacles.now i lo hi weight limit result }
 {
     let steps = (limit - weight) / weight_of_step(wires, i);
-    highest_cuttable(nodes, wires, obstacles, i, (lo + steps) as u32) as u64
+    u64::from(highest_cuttable(nodes, wires, obstacles, i, (lo + steps) as u32))
 }
 
 // Climbs the wire of branch i, whose cluster is closed.
@@ -53,43 +53,39 @@ fn climb(
     ensures { Climbs nodes.now wires.now obstacles.now i lo hi limit x result }
 {
     let span = stretch_weight(wires, i, lo, hi);
-    let any = x.any_weight + span;
-    if x.ungated_ok {
-        let ungated = x.ungated_weight + span;
-        if any <= limit {
-            return Climbing {
-                count: x.fewest,
-                lightest: any,
-                has_ungated: true,
-                ungated,
-                near: 0,
-            };
+    match x.options {
+        Options::Any(weight) if limit < weight + span => {
+            let near = last_within(nodes, wires, obstacles, i, lo, hi, weight, limit);
+            let rest = stretch_weight(wires, i, near, hi);
+            Climbing {
+                count: x.fewest + 1,
+                lightest: rest,
+                ungated: Some(rest),
+                near: Some(near),
+            }
         }
-        return Climbing {
+        Options::Any(weight) => Climbing {
             count: x.fewest,
-            lightest: ungated,
-            has_ungated: true,
-            ungated,
-            near: 0,
-        };
-    }
-    if any <= limit {
-        return Climbing {
+            lightest: weight + span,
+            ungated: None,
+            near: None,
+        },
+        Options::Ungated(weight) => Climbing {
             count: x.fewest,
-            lightest: any,
-            has_ungated: false,
-            ungated: 0,
-            near: 0,
-        };
-    }
-    let near = last_within(nodes, wires, obstacles, i, lo, hi, x.any_weight, limit);
-    let rest = stretch_weight(wires, i, near, hi);
-    Climbing {
-        count: x.fewest + 1,
-        lightest: rest,
-        has_ungated: true,
-        ungated: rest,
-        near,
+            lightest: weight + span,
+            ungated: Some(weight + span),
+            near: None,
+        },
+        Options::Either { any, ungated } => Climbing {
+            count: x.fewest,
+            lightest: if any + span <= limit {
+                any + span
+            } else {
+                ungated + span
+            },
+            ungated: Some(ungated + span),
+            near: None,
+        },
     }
 }
 
@@ -114,8 +110,7 @@ pub fn climb_at(
     Climbing {
         count: 0,
         lightest: 0,
-        has_ungated: false,
-        ungated: 0,
-        near: 0,
+        ungated: None,
+        near: None,
     }
 }

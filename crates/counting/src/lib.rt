@@ -4,3 +4,4 @@
 mod climb;
 mod close;
 pub mod count;
+pub mod work;

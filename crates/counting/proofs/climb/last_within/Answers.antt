@@ -46,4 +46,4 @@ returns c =
     let inside = steps-inside a.nodes.now a.wires.now a.obstacles.now a.i a.lo a.hi a.weight a.limit b c.requires.weight_le_limit.0 c.requires.weight_le_limit.1 in
     let high = open_high a.nodes.now a.wires.now a.obstacles.now a.i a.hi b.hi_open in
     let small = length-small a.nodes.now a.wires.now a.i (λ k. omega (arith, c.type_inv.nodes k)) b.checked in
-    last_within a.nodes.now a.wires.now a.obstacles.now a.i a.lo a.hi a.weight a.limit _ b c.requires.weight_le_limit.0 c.requires.weight_le_limit.1 (rw e at c.highest_cuttable.ensures)
+    last_within a.nodes.now a.wires.now a.obstacles.now a.i a.lo a.hi a.weight a.limit _ b c.requires.weight_le_limit.0 c.requires.weight_le_limit.1 (rw (← c.from.ensures, e) at c.highest_cuttable.ensures)

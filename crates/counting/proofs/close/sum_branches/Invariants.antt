@@ -1,14 +1,15 @@
 -- `counting::close::sum_branches` meets its contract: the sums so far are those of the branches passed.
 -- Assumes nothing.
-use Prim.Native.Nat.{◌≤◌, ◌-◌}
-use mathlib.Core.Path.{◌≡◌}
+use Rattle.std.proofs.Common.{◌≤◌, ◌≡◌}
 use Rattle.counting.specs.Close.{branch_sum, clear_count, flagged_sum}
 use Rattle.counting.proofs.close.sum_branches.Given as goal
 
 abbrev pub invariant-loop-j : goal.invariant-loop-j
-invariant-loop-j l =
-    (l.j ≤ l.n) × (l.gated ≤ l.j) × (l.below ≡ branch_sum l.j l.lo l.host l.r l.count) × (l.light ≡ branch_sum l.j l.lo l.host l.r l.lightest)
-    × (l.free ≡ flagged_sum l.j l.lo l.host l.r l.has_ungated l.ungated) × (l.gated ≡ clear_count l.j l.lo l.host l.r l.has_ungated)
-
-abbrev pub decreases-loop-j : goal.decreases-loop-j
-decreases-loop-j l = l.n - l.j
+invariant-loop-j g l =
+    record {
+      count_is : l.count ≡ branch_sum l.j l.c.lo l.c.host l.r l.b.count;
+      lightest_is : l.lightest ≡ branch_sum l.j l.c.lo l.c.host l.r l.b.lightest;
+      ungated_is : l.ungated ≡ flagged_sum l.j l.c.lo l.c.host l.r l.has_ungated l.b.ungated;
+      gated_is : l.gated ≡ clear_count l.j l.c.lo l.c.host l.r l.has_ungated;
+      gated_few : l.gated ≤ l.j;
+    }

@@ -1,0 +1,27 @@
+// The work arrays of the pass down, with an entry for each of at most N nodes.
+
+// What the pass down finds.
+#[derive(Drop)]
+pub struct Counts<const N: usize> {
+    // branches that the any-option of their host cuts
+    pub cut_any: [bool; N],
+    // for each cluster, whether the any-option reaches the fewest points, and the weight that they leave
+    pub any_ok: [bool; N],
+    pub any_weight: [u64; N],
+    // branches that can come without a gate
+    pub has_ungated: [bool; N],
+    // the position of a branch's own jumper, 0 for none: an Option of it would take twice the memory
+    pub near: [u64; N],
+    // for each cluster, the fewest points below it
+    pub fewest: [u64; N],
+}
+
+// What else climbing finds of branches, as far as closing their hosts reads it.
+#[derive(Drop)]
+pub struct Branches<const N: usize> {
+    // the fewest points below and on a branch's wire
+    pub count: [u64; N],
+    // the least weight that a branch adds to its host; the least without a gate, 0 where it cannot come without one
+    pub lightest: [u64; N],
+    pub ungated: [u64; N],
+}
