@@ -22,3 +22,19 @@ pub struct Clusters<const N: usize> {
     pub fixed: [u64; N],
     pub gates: [u64; N],
 }
+
+impl<const N: usize> Clusters<N> {
+    pub fn new() -> Self {
+        Clusters {
+            n: 0,
+            lo: [0; N],
+            hi: [0; N],
+            root: [0; N],
+            host: [0; N],
+            component: [0; N],
+            sourced: [false; N],
+            fixed: [0; N],
+            gates: [0; N],
+        }
+    }
+}

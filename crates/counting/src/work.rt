@@ -16,6 +16,19 @@ pub struct Counts<const N: usize> {
     pub fewest: [u64; N],
 }
 
+impl<const N: usize> Counts<N> {
+    pub fn new() -> Self {
+        Counts {
+            cut_any: [false; N],
+            any_ok: [false; N],
+            any_weight: [0; N],
+            has_ungated: [false; N],
+            near: [0; N],
+            fewest: [0; N],
+        }
+    }
+}
+
 // What else climbing finds of branches, as far as closing their hosts reads it.
 #[derive(Drop)]
 pub struct Branches<const N: usize> {

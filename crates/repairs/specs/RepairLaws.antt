@@ -2,7 +2,7 @@
 -- Assumes nothing.
 use Rattle.std.specs.Prelude.{ℕ, zero, suc, ◌+◌, ◌*◌, ◌≤◌, ◌<◌, ◌≡◌, Bool, true, false, ◌&&◌, ◌⊎◌, List, ◌++◌, length, drop, set, replicate, leb, ltb}
 use Rattle.std.proofs.Math.Path.{refl, sym}
-use Rattle.std.proofs.Common.{◌∙◌, ap, inl, inr, length-set, arith, lt-ltb}
+use Rattle.std.proofs.Common.{◌∙◌, ap, subst, inl, inr, length-set, arith, lt-ltb}
 use Rattle.std.proofs.Math.Bool.{not}
 use Rattle.std.proofs.Math.ListN.{get_or}
 use Rattle.std.proofs.lemmas.List.{length-replicate}
@@ -13,7 +13,7 @@ use Rattle.net.specs.declared.Answer.{Answer}
 use Rattle.net.specs.Layout.{newest, entry_bytes}
 use Rattle.net.specs.Limits.{weight_bound}
 use Rattle.net.specs.Refusal.{none, refusal, answer, net_refusal}
-use Rattle.net.specs.Net.{node_count, wire_length, barred}
+use Rattle.net.specs.Net.{node_count, wire_factor, wire_length, barred}
 use Rattle.net.specs.Stage.{Stage, stage_of}
 use Rattle.net.specs.Formed.{Formed}
 use Rattle.net.specs.Accepted.{NetRight, formed}
@@ -22,6 +22,7 @@ use Rattle.pieces.specs.Legal.{Smallest, NoneLegal}
 use Rattle.pieces.specs.Barring.{none_legal_same, smallest-same}
 use Rattle.obstacles.specs.Prepared.{prepared}
 use Rattle.obstacles.specs.PreparedLaws.{prepared_agrees, prepared-none}
+use Rattle.cuts.specs.Cluster as cuts
 use Rattle.cuts.specs.Cluster.{Sound}
 use Rattle.cuts.specs.Passes.{Down, Counted, Run, total_fewest}
 use Rattle.cuts.specs.Fits.{free_at}
@@ -30,11 +31,13 @@ use Rattle.cuts.specs.OtherFree.{sound-free, counted-free}
 use Rattle.cuts.specs.BridgeFits.{sound_of_fits}
 use Rattle.cuts.specs.BridgeRun.{hopeless-none}
 use Rattle.clusters.specs.Arrays.{clusters_of, down_of, up_of}
+use Rattle.clusters.specs.declared.work.Clusters.{Clusters}
 use Rattle.clusters.specs.FirstPasses.{Clustered}
 use Rattle.clusters.specs.Hopeless.{any_hopeless}
 use Rattle.clusters.specs.HopelessLaws.{some-hopeless}
 use Rattle.counting.specs.Climb.{open_at}
-use Rattle.counting.specs.Count.{work_clusters, Ready, CountedAll, root_sum}
+use Rattle.counting.specs.declared.work.Counts.{Counts}
+use Rattle.counting.specs.Count.{work_clusters, Ready, found, CountedAll, root_sum}
 use Rattle.choice.specs.Choose.{cut_here, any_here, Chooses, Choosable}
 use Rattle.choice.specs.ChooseLaws.{chooses_more, chosen_of}
 use Rattle.repairs.specs.Promise.{Judged, no_legal_set, too_short, done}
@@ -49,134 +52,6 @@ pub record Planned (s : Stage) (limit : ℕ) (hi near : List ℕ) (cut_high : Li
   pub listing : Listable s.nodes hi near cut_high
   pub points_is : points ≡ count_of s.nodes near cut_high
 
--- options and cuts that the pass up may choose for the clusters below i, in arrays of n entries
-record Options
-    (n : ℕ) (ws lo hi host : List ℕ) (cut_any any_ok : List Bool) (any_weight : List ℕ) (has_ungated : List Bool) (near : List ℕ) (limit i : ℕ) : Type 0 where
-  any_mode : List Bool
-  cut_high : List Bool
-  modes : n ≤ length any_mode
-  cuts : n ≤ length cut_high
-  chosen : (r : ℕ) → r < i → Chooses ws lo hi host cut_any any_ok any_weight has_ungated near limit any_mode cut_high r
-
--- there are always some
-options :
-    (n : ℕ) (ws lo hi host : List ℕ) (cut_any any_ok : List Bool) (any_weight : List ℕ) (has_ungated : List Bool) (near : List ℕ) (limit : ℕ) →
-    ((r : ℕ) → r < n → 0 < get_or lo r 0 → get_or host r 0 < r) →
-    (i : ℕ) → i ≤ n → Options n ws lo hi host cut_any any_ok any_weight has_ungated near limit i
-options n ws lo hi host cut_any any_ok any_weight has_ungated near limit below zero p =
-    record {
-      any_mode = replicate n false;
-      cut_high = replicate n false;
-      modes = omega (arith, length-replicate n false);
-      cuts = omega (arith, length-replicate n false);
-      chosen = λ r q. absurd (native.Mathlib.Nat.lt_irrefl 0 (omega arith));
-    }
-options n ws lo hi host cut_any any_ok any_weight has_ungated near limit below (suc i) p =
-    let o = options n ws lo hi host cut_any any_ok any_weight has_ungated near limit below i (omega arith) in
-    let h = cut_here lo host cut_any has_ungated o.any_mode i in
-    let m = any_here ws lo hi host any_ok any_weight near limit o.any_mode h i in
-    record {
-      any_mode = set o.any_mode i m;
-      cut_high = set o.cut_high i h;
-      modes = omega (arith, o.modes, length-set o.any_mode i m);
-      cuts = omega (arith, o.cuts, length-set o.cut_high i h);
-      chosen = λ r q.
-          chooses_more ws lo hi host cut_any any_ok any_weight has_ungated near limit o.any_mode o.cut_high i h m (omega (arith, o.modes)) (omega (arith, o.cuts))
-          (λ j l. below j (omega arith)) refl refl o.chosen r (omega arith);
-    }
-
-module _ (ns ws os : List ℕ) (k : ℕ) (right : NetRight newest ns ws os) (lo hi root host component : List ℕ) (sourced : List Bool) (fixed gates : List ℕ)
-    (first : Clustered ns ws os k lo hi root host component sourced fixed gates) where
-  is_formed : Formed (stage_of newest ns ws os k)
-  is_formed = formed newest ns ws os right k
-
-  -- a cuttable wire is present, so its free points are its open ones
-  same-free : (j t : ℕ) → j < node_count ns → ltb 0 (get_or lo j 0) ≡ true → free_at (stage_of newest ns ws os k) j t ≡ open_at ns ws os j t
-  unfolding free_at open_at clusters_of stage_of
-  same-free j t p cut =
-      rw (and_left ((stage_of newest ns ws os k).present j) (leb 1 (get_or lo j 0) && (ltb (get_or lo j 0) (wire_length ns ws j) && not (barred newest ns ws os j (get_or lo j 0)))) (first.fits.lo_free j p cut))
-
-  is_sound : Sound (clusters_of (stage_of newest ns ws os k) lo hi host fixed gates)
-  is_sound = sound_of_fits (stage_of newest ns ws os k) (clusters_of (stage_of newest ns ws os k) lo hi host fixed gates) (λ i. get_or root i 0) (λ i. get_or component i 0) is_formed first.fits
-
-  sound_work : Sound (work_clusters (node_count ns) ns ws os lo hi host fixed gates)
-  unfolding work_clusters clusters_of stage_of
-  sound_work = sound-free (work_clusters (node_count ns) ns ws os lo hi host fixed gates) (λ i t. free_at (stage_of newest ns ws os k) i t) same-free is_sound
-
-  -- what the pass down requires
-  pub ready_of : Ready (node_count ns) ns ws os lo hi host fixed gates
-  unfolding all_weight work_clusters clusters_of stage_of
-  ready_of =
-      record {
-        sound = sound_work;
-        few = right.sized.few_nodes;
-        light = first.light;
-        checked = λ j p q. checked_of right j p q;
-        factor = λ j p q. (right.wire j p q).factor_low;
-      }
-
-  -- a hopeless cluster: 15
-  pub none_of : (limit : ℕ) → any_hopeless (node_count ns) fixed gates limit ≡ true → NoneLegal (stage_of newest ns ws os k) limit
-  unfolding clusters_of stage_of
-  none_of limit some =
-      let h = some-hopeless (node_count ns) fixed gates limit some in
-      hopeless-none (stage_of newest ns ws os k) (clusters_of (stage_of newest ns ws os k) lo hi host fixed gates) (λ i. get_or root i 0) (λ i. get_or component i 0) is_formed first.fits limit h.at h.inside h.gated h.heavy
-
-  module _ (limit : ℕ) (cut_any any_ok : List Bool) (any_weight : List ℕ) (has_ungated : List Bool) (near fewest : List ℕ) (points : ℕ)
-      (worked : CountedAll (node_count ns) ns ws os lo hi host fixed gates limit cut_any any_ok any_weight has_ungated near fewest points) where
-    abbrev down : Down
-    down =
-        down_of cut_any fewest any_ok any_weight worked.counted.ungated_ok worked.counted.ungated_weight worked.count worked.lightest has_ungated worked.ungated near
-
-    counted : Counted (clusters_of (stage_of newest ns ws os k) lo hi host fixed gates) limit down 0
-    unfolding work_clusters clusters_of stage_of
-    counted =
-        counted-free (work_clusters (node_count ns) ns ws os lo hi host fixed gates) (λ i t. free_at (stage_of newest ns ws os k) i t) same-free worked.counted.counted
-
-    weight-light : (r : ℕ) → r < node_count ns → get_or any_weight r 0 < weight_bound
-    unfolding clusters_of stage_of down_of
-    weight-light r p =
-        let b = cluster_bounded (clusters_of (stage_of newest ns ws os k) lo hi host fixed gates) limit down is_sound 0 counted r (omega arith) p in
-        omega (arith, first.light, b)
-
-    -- what the pass up requires
-    pub choosable_of : Choosable (node_count ns) ws lo hi host any_weight
-    unfolding clusters_of stage_of
-    choosable_of =
-        record {
-          stored = λ r p. omega (arith, right.sized.wires_length);
-          below = λ r p c. is_sound.host_below r p (lt-ltb 0 (get_or lo r 0) c);
-          ordered = λ r p c. is_sound.lo_least r (get_or hi r 0) p (lt-ltb 0 (get_or lo r 0) c) (is_sound.hi_free r p (lt-ltb 0 (get_or lo r 0) c));
-          short = first.short;
-          light = weight-light;
-        }
-
-    -- both passes: the list of the chosen points is that of a smallest legal set, and has as many entries as were counted
-    module _ (any_mode cut_high : List Bool) (chose : (r : ℕ) → r < node_count ns → Chooses ws lo hi host cut_any any_ok any_weight has_ungated near limit any_mode cut_high r) where
-      run : Run (clusters_of (stage_of newest ns ws os k) lo hi host fixed gates) limit down (up_of any_mode cut_high)
-      unfolding clusters_of stage_of
-      run =
-          record {
-            counted = counted;
-            chosen = λ r p.
-                chosen_of ws lo hi host cut_any any_ok any_weight has_ungated near limit (stage_of newest ns ws os k) fixed gates fewest worked.counted.ungated_ok worked.counted.ungated_weight worked.count worked.lightest worked.ungated any_mode cut_high r refl (chose r p);
-          }
-
-      pub planned : Planned (stage_of newest ns ws os k) limit hi near cut_high points
-      unfolding clusters_of stage_of down_of total_fewest root_sum
-      planned =
-          record {
-            smallest = smallest_list (stage_of newest ns ws os k) (λ i. get_or root i 0) (λ i. get_or component i 0) limit lo hi host fixed gates cut_any fewest any_ok any_weight worked.counted.ungated_ok worked.counted.ungated_weight worked.count worked.lightest has_ungated worked.ungated near any_mode cut_high is_formed first.fits run first.short;
-            listing = listable (stage_of newest ns ws os k) (λ i. get_or root i 0) (λ i. get_or component i 0) limit lo hi host fixed gates cut_any fewest any_ok any_weight worked.counted.ungated_ok worked.counted.ungated_weight worked.count worked.lightest has_ungated worked.ungated near any_mode cut_high is_formed first.fits run first.short;
-            points_is = worked.points_is ∙ sym (count_is_total (stage_of newest ns ws os k) (λ i. get_or root i 0) (λ i. get_or component i 0) limit lo hi host fixed gates cut_any fewest any_ok any_weight worked.counted.ungated_ok worked.counted.ungated_weight worked.count worked.lightest has_ungated worked.ungated near any_mode cut_high is_formed first.fits run first.short);
-          }
-
-    -- before the pass up has run: it can choose, so as many points as were counted are the fewest
-    pub planned-some : (cut_high : List Bool) × Planned (stage_of newest ns ws os k) limit hi near cut_high points
-    planned-some =
-        let o = options (node_count ns) ws lo hi host cut_any any_ok any_weight has_ungated near limit choosable_of.below (node_count ns) (omega arith) in
-        (o.cut_high, planned o.any_mode o.cut_high o.chosen)
-
 -- a wire has at most two jumpers
 pub count-few : (n : ℕ) (near : List ℕ) (cut_high : List Bool) → count_of n near cut_high ≤ n * 2
 count-few n near cut_high = sum_bound n 2 (λ r p. two (ltb 0 (get_or near r 0)) (get_or cut_high r false))
@@ -186,6 +61,161 @@ count-few n near cut_high = sum_bound n 2 (λ r p. two (ltb 0 (get_or near r 0))
     two true false = omega arith
     two false true = omega arith
     two false false = omega arith
+
+-- options and cuts that the pass up may choose for the clusters below i, in arrays of an entry for each node
+record Options (ws : List ℕ) {N : ℕ} (c : Clusters N) (d : Counts N) (limit i : ℕ) : Type 0 where
+  any_mode : List Bool
+  cut_high : List Bool
+  modes : c.n ≤ length any_mode
+  cuts : c.n ≤ length cut_high
+  chosen : (r : ℕ) → r < i → Chooses ws c d limit any_mode cut_high r
+
+-- there are always some
+options :
+    (ws : List ℕ) {N : ℕ} (c : Clusters N) (d : Counts N) (limit : ℕ) →
+    ((r : ℕ) → r < c.n → 0 < get_or c.lo r 0 → get_or c.host r 0 < r) →
+    (i : ℕ) → i ≤ c.n → Options ws c d limit i
+options ws c d limit below zero p =
+    record {
+      any_mode = replicate c.n false;
+      cut_high = replicate c.n false;
+      modes = omega (arith, length-replicate c.n false);
+      cuts = omega (arith, length-replicate c.n false);
+      chosen = λ r q. absurd (native.Mathlib.Nat.lt_irrefl 0 (omega arith));
+    }
+options ws c d limit below (suc i) p =
+    let o = options ws c d limit below i (omega arith) in
+    let h = cut_here c d o.any_mode i in
+    let m = any_here ws c d limit o.any_mode h i in
+    record {
+      any_mode = set o.any_mode i m;
+      cut_high = set o.cut_high i h;
+      modes = omega (arith, o.modes, length-set o.any_mode i m);
+      cuts = omega (arith, o.cuts, length-set o.cut_high i h);
+      chosen = λ r q.
+          chooses_more ws c d limit o.any_mode o.cut_high i h m (omega (arith, o.modes)) (omega (arith, o.cuts))
+          (λ j l. below j (omega arith)) refl refl o.chosen r (omega arith);
+    }
+
+module _ (ns ws os : List ℕ) (k : ℕ) (right : NetRight newest ns ws os) {N : ℕ} (c : Clusters N) (first : Clustered ns ws os k c) where
+  is_formed : Formed (stage_of newest ns ws os k)
+  is_formed = formed newest ns ws os right k
+
+  -- the clusters of the net, and those of the work arrays, of m nodes
+  abbrev net : cuts.Clusters
+  net = clusters_of (stage_of newest ns ws os k) c.lo c.hi c.host c.fixed c.gates
+
+  abbrev work : ℕ → cuts.Clusters
+  work m =
+      record {
+        nodes = m;
+        cuttable = λ i. ltb 0 (get_or c.lo i 0);
+        lo = λ i. get_or c.lo i 0;
+        hi = λ i. get_or c.hi i 0;
+        free = λ i t. open_at ns ws os i t;
+        factor = λ i. wire_factor ws i;
+        host = λ i. get_or c.host i 0;
+        fixed = λ r. get_or c.fixed r 0;
+        gates = λ r. get_or c.gates r 0;
+      }
+
+  -- a cuttable wire is present, so its free points are its open ones
+  same-free : (j t : ℕ) → j < node_count ns → ltb 0 (get_or c.lo j 0) ≡ true → free_at (stage_of newest ns ws os k) j t ≡ open_at ns ws os j t
+  unfolding free_at open_at clusters_of stage_of
+  same-free j t p cut =
+      rw (and_left ((stage_of newest ns ws os k).present j) (leb 1 (get_or c.lo j 0) && (ltb (get_or c.lo j 0) (wire_length ns ws j) && not (barred newest ns ws os j (get_or c.lo j 0)))) (first.fits.lo_free j p cut))
+
+  is_sound : Sound net
+  is_sound = sound_of_fits (stage_of newest ns ws os k) net (λ i. get_or c.root i 0) (λ i. get_or c.component i 0) is_formed first.fits
+
+  sound_work : Sound (work_clusters ns ws os c)
+  unfolding work_clusters clusters_of stage_of
+  sound_work = subst (λ m. Sound (work m)) (sym first.n_is) (sound-free (work (node_count ns)) (λ i t. free_at (stage_of newest ns ws os k) i t) same-free is_sound)
+
+  -- what the pass down requires
+  pub ready_of : Ready ns ws os c
+  unfolding all_weight work_clusters clusters_of stage_of
+  ready_of =
+      record {
+        sound = sound_work;
+        few = omega (arith, first.n_is, right.sized.few_nodes);
+        light = subst (λ m. all_weight (work m) < weight_bound) (sym first.n_is) first.light;
+        checked = λ j p q. checked_of right j p (omega (arith, first.n_is));
+        factor = λ j p q. (right.wire j p (omega (arith, first.n_is))).factor_low;
+      }
+
+  -- a hopeless cluster: 15
+  pub none_of : (limit : ℕ) → any_hopeless c.n c.fixed c.gates limit ≡ true → NoneLegal (stage_of newest ns ws os k) limit
+  unfolding clusters_of stage_of
+  none_of limit some =
+      let h = some-hopeless c.n c.fixed c.gates limit some in
+      hopeless-none (stage_of newest ns ws os k) net (λ i. get_or c.root i 0) (λ i. get_or c.component i 0) is_formed first.fits limit h.at (omega (arith, first.n_is, h.inside)) h.gated h.heavy
+
+  module _ (limit : ℕ) (d : Counts N) (points : ℕ) (worked : CountedAll ns ws os c limit d points) where
+    abbrev down : Down
+    down = found d worked.branches worked.counted.ungated_ok worked.counted.ungated_weight
+
+    counted : Counted net limit down 0
+    unfolding work_clusters clusters_of stage_of
+    counted =
+        counted-free (work (node_count ns)) (λ i t. free_at (stage_of newest ns ws os k) i t) same-free (subst (λ m. Counted (work m) limit down 0) first.n_is worked.counted.counted)
+
+    weight-light : (r : ℕ) → r < node_count ns → get_or d.any_weight r 0 < weight_bound
+    unfolding clusters_of stage_of down_of
+    weight-light r p =
+        let b = cluster_bounded net limit down is_sound 0 counted r (omega arith) p in
+        omega (arith, first.light, b)
+
+    -- what the pass up requires
+    pub choosable_of : Choosable ws c d
+    unfolding clusters_of stage_of
+    choosable_of =
+        record {
+          stored = λ r p. omega (arith, first.n_is, right.sized.wires_length);
+          below = λ r p q. is_sound.host_below r (omega (arith, first.n_is)) (lt-ltb 0 (get_or c.lo r 0) q);
+          ordered = λ r p q.
+              let inside : r < node_count ns = omega (arith, first.n_is) in
+              is_sound.lo_least r (get_or c.hi r 0) inside (lt-ltb 0 (get_or c.lo r 0) q) (is_sound.hi_free r inside (lt-ltb 0 (get_or c.lo r 0) q));
+          short = λ r p. first.short r (omega (arith, first.n_is));
+          light = λ r p. weight-light r (omega (arith, first.n_is));
+        }
+
+    -- both passes: the list of the chosen points is that of a smallest legal set, and has as many entries as were counted
+    module _ (any_mode cut_high : List Bool) (chose : (r : ℕ) → r < c.n → Chooses ws c d limit any_mode cut_high r) where
+      run : Run net limit down (up_of any_mode cut_high)
+      unfolding clusters_of stage_of
+      run =
+          record {
+            counted = counted;
+            chosen = λ r p.
+                chosen_of ws c d limit (stage_of newest ns ws os k) worked.counted.ungated_ok worked.counted.ungated_weight worked.branches any_mode cut_high r refl (chose r (omega (arith, first.n_is)));
+          }
+
+      pub planned : Planned (stage_of newest ns ws os k) limit c.hi d.near cut_high points
+      unfolding clusters_of stage_of down_of total_fewest root_sum
+      planned =
+          let b = worked.branches in
+          let up = worked.counted in
+          record {
+            smallest = smallest_list (stage_of newest ns ws os k) (λ i. get_or c.root i 0) (λ i. get_or c.component i 0) limit c.lo c.hi c.host c.fixed c.gates d.cut_any d.fewest d.any_ok d.any_weight up.ungated_ok up.ungated_weight b.count b.lightest d.has_ungated b.ungated d.near any_mode cut_high is_formed first.fits run first.short;
+            listing = listable (stage_of newest ns ws os k) (λ i. get_or c.root i 0) (λ i. get_or c.component i 0) limit c.lo c.hi c.host c.fixed c.gates d.cut_any d.fewest d.any_ok d.any_weight up.ungated_ok up.ungated_weight b.count b.lightest d.has_ungated b.ungated d.near any_mode cut_high is_formed first.fits run first.short;
+            points_is =
+                rw first.n_is at worked.points_is
+                ∙ sym (count_is_total (stage_of newest ns ws os k) (λ i. get_or c.root i 0) (λ i. get_or c.component i 0) limit c.lo c.hi c.host c.fixed c.gates d.cut_any d.fewest d.any_ok d.any_weight up.ungated_ok up.ungated_weight b.count b.lightest d.has_ungated b.ungated d.near any_mode cut_high is_formed first.fits run first.short);
+          }
+
+    -- before the pass up has run: it can choose, so as many points as were counted are the fewest
+    pub planned-some : (cut_high : List Bool) × Planned (stage_of newest ns ws os k) limit c.hi d.near cut_high points
+    planned-some =
+        let o = options ws c d limit choosable_of.below c.n (omega arith) in
+        (o.cut_high, planned o.any_mode o.cut_high o.chosen)
+
+    -- a wire has at most two jumpers, so the points are few
+    pub points-few : points ≤ 2 * node_count ns
+    unfolding stage_of
+    points-few =
+        let q = planned-some in
+        omega (arith, q.1.points_is, count-few (node_count ns) d.near q.0)
 
 module _ {s : Stage} {limit : ℕ} {hi near : List ℕ} {cut_high : List Bool} {points : ℕ} {out : List ℕ} {r : Answer} (p : Planned s limit hi near cut_high points) where
   pub judged-short : length out < entry_bytes * points → r ≡ answer (refusal 16 (entry_bytes * points)) 0 → Judged s limit out out r

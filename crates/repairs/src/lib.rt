@@ -10,11 +10,12 @@ ghost use Rattle.repairs.specs.Promise.{Judged, Repaired};
 use choice::choose;
 use clusters::first_passes::first_passes;
 use clusters::hopeless::find_hopeless;
+use clusters::work::Clusters;
 use counting::count::count_pass;
+use counting::work::Counts;
 use listing::write_list;
 use net::answers::{answered, none, refused};
 use net::call::call_refusal;
-use net::fields::node_count;
 use net::layout::{ENTRY_BYTES, MOST_NODES};
 use net::{Answer, sections};
 use obstacles::{PREPARED_BYTES, is_prepared, prepare};
@@ -71,76 +72,20 @@ pub fn repair_net(
     requires { net_refusal newest nodes.now wires.now obstacles.now ≡ none }
     ensures { Judged (stage_of newest nodes.now wires.now obstacles.now stage) limit out.old out.new result }
 {
-    let n = node_count(nodes);
-    let mut lo = [0u64; MOST_NODES];
-    let mut hi = [0u64; MOST_NODES];
-    let mut root = [0usize; MOST_NODES];
-    let mut host = [0usize; MOST_NODES];
-    let mut component = [0usize; MOST_NODES];
-    let mut sourced = [false; MOST_NODES];
-    let mut fixed = [0u64; MOST_NODES];
-    let mut gates = [0u64; MOST_NODES];
-    first_passes(
-        nodes,
-        wires,
-        obstacles,
-        stage,
-        &mut lo,
-        &mut hi,
-        &mut root,
-        &mut host,
-        &mut component,
-        &mut sourced,
-        &mut fixed,
-        &mut gates,
-    );
+    let mut clusters = Clusters::<MOST_NODES>::new();
+    first_passes(nodes, wires, obstacles, stage, &mut clusters);
     let mut hopeless = [false; MOST_NODES];
-    if find_hopeless(&component, &fixed, &gates, n, limit, &mut hopeless) {
+    if find_hopeless(&clusters, limit, &mut hopeless) {
         return answered(refused(15, 0), 0);
     }
-    let mut cut_any = [false; MOST_NODES];
-    let mut any_ok = [false; MOST_NODES];
-    let mut any_weight = [0u64; MOST_NODES];
-    let mut has_ungated = [false; MOST_NODES];
-    let mut near = [0u64; MOST_NODES];
-    let mut fewest = [0u64; MOST_NODES];
-    let points = count_pass(
-        nodes,
-        wires,
-        obstacles,
-        &lo,
-        &hi,
-        &host,
-        &fixed,
-        &gates,
-        &mut cut_any,
-        &mut any_ok,
-        &mut any_weight,
-        &mut has_ungated,
-        &mut near,
-        &mut fewest,
-        n,
-        limit,
-    );
+    let mut counts = Counts::<MOST_NODES>::new();
+    let points = count_pass(nodes, wires, obstacles, &clusters, limit, &mut counts);
     let needed = (ENTRY_BYTES as u64) * points;
     if (out.len() as u64) < needed {
         return answered(refused(16, needed), 0);
     }
     let mut cut_high = [false; MOST_NODES];
-    choose(
-        n,
-        wires,
-        &lo,
-        &hi,
-        &host,
-        &cut_any,
-        &any_ok,
-        &any_weight,
-        &has_ungated,
-        &near,
-        limit,
-        &mut cut_high,
-    );
-    write_list(n, &hi, &near, &cut_high, out);
+    choose(wires, &clusters, &counts, limit, &mut cut_high);
+    write_list(clusters.n, &clusters.hi, &counts.near, &cut_high, out);
     answered(none(), points)
 }
