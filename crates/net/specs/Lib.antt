@@ -1,6 +1,7 @@
 pub mod Layout
 pub mod Limits
 pub mod Net
+pub mod Numbers
 pub mod Stage
 pub mod Formed
 pub mod Refusal

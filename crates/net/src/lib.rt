@@ -2,11 +2,11 @@
 // Definitions: specs/.
 #![tactic(auto)]
 
-pub mod answers;
 pub mod call;
 pub mod fields;
 pub mod layout;
 pub mod read;
+pub mod refusal;
 pub mod sections;
 pub mod write;
 
@@ -17,11 +17,4 @@ pub struct Answer {
     pub number: u32,
     pub place: u64,
     pub count: u64,
-}
-
-// The first refusal met: its number and place, or number 0 where none is.
-#[derive(Clone, Copy)]
-pub struct Refusal {
-    pub number: u32,
-    pub place: u64,
 }

@@ -2,15 +2,15 @@
 ghost use Rattle.std.specs.Prelude.{◌≡◌, false, ◌+◌, ◌<◌, ◌≤◌, length};
 ghost use Rattle.net.specs.Layout.{head_bytes};
 ghost use Rattle.net.specs.File.{version_of, offset, extent, stretch};
+ghost use Rattle.net.specs.Numbers.{checked};
 ghost use Rattle.net.specs.Refusal.{met, or_else, is_version, head_refusal, pairs_refusal, section_of, nodes_of, wires_of, obstacles_of};
 
-use crate::Refusal;
-use crate::answers::{none, refused};
 use crate::fields::{u16_at, u32_at};
 use crate::layout::{
     FIRST_VERSION, HEAD_BYTES, LENGTH_AT, NEWEST_VERSION, PAIR_BYTES, PAIR_COUNT, PAIR_COUNT_AT,
     PAIRS_AT, VERSION_AT,
 };
+use crate::refusal::Refusal;
 
 // The version of a file that has a head.
 pub fn version(file: &[u8]) -> u16
@@ -24,10 +24,7 @@ pub fn version(file: &[u8]) -> u16
 pub fn is_version(version: u32) -> bool
     ensures { result ≡ is_version version }
 {
-    if version == FIRST_VERSION as u32 {
-        return true;
-    }
-    version == NEWEST_VERSION as u32
+    version == u32::from(FIRST_VERSION) || version == u32::from(NEWEST_VERSION)
 }
 
 // The nodes of a file: that part of it, or an empty part after 2 or 3.
@@ -56,11 +53,10 @@ fn section(file: &[u8], k: usize) -> &[u8]
     requires { k < 3 }
     ensures { result.now ≡ section_of file.now k }
 {
-    let r = head_and_pairs_refusal(file);
-    if r.number != 0 {
-        return &file[0..0];
+    match head_and_pairs_refusal(file) {
+        Ok(()) => stretch(file, k),
+        Err(_) => &file[0..0],
     }
-    stretch(file, k)
 }
 
 // The part of the file that section k's pair names, once head and pairs are checked.
@@ -74,30 +70,24 @@ pub fn stretch(file: &[u8], k: usize) -> &[u8]
 }
 
 // Head of file, then pairs: 2, 3.
-pub fn head_and_pairs_refusal(file: &[u8]) -> Refusal
-    ensures { result ≡ or_else (head_refusal file.now) (pairs_refusal file.now) }
+pub fn head_and_pairs_refusal(file: &[u8]) -> Result<(), Refusal>
+    ensures { checked result ≡ or_else (head_refusal file.now) (pairs_refusal file.now) }
 {
-    let head = head_refusal(file);
-    if head.number != 0 {
-        return head;
-    }
+    head_refusal(file)?;
     pairs_refusal(file)
 }
 
 // Head of file: 2.
-fn head_refusal(file: &[u8]) -> Refusal
-    ensures { result ≡ head_refusal file.now }
+fn head_refusal(file: &[u8]) -> Result<(), Refusal>
+    ensures { checked result ≡ head_refusal file.now }
 {
-    if file.len() < HEAD_BYTES {
-        return refused(2, 0);
+    if file.len() < HEAD_BYTES
+        || !is_version(u32::from(version(file)))
+        || u16_at(file, PAIR_COUNT_AT) != PAIR_COUNT
+    {
+        return Err(Refusal::Head);
     }
-    if !is_version(version(file) as u32) {
-        return refused(2, 0);
-    }
-    if u16_at(file, PAIR_COUNT_AT) != PAIR_COUNT {
-        return refused(2, 0);
-    }
-    none()
+    Ok(())
 }
 
 // The offset of section k's pair.
@@ -125,21 +115,16 @@ fn end_of(file: &[u8], k: usize) -> usize
 }
 
 // Pairs: 3.
-fn pairs_refusal(file: &[u8]) -> Refusal
+fn pairs_refusal(file: &[u8]) -> Result<(), Refusal>
     requires { head_bytes ≤ length file.now }
-    ensures { result ≡ pairs_refusal file.now }
+    ensures { checked result ≡ pairs_refusal file.now }
 {
-    if offset(file, 0) != HEAD_BYTES {
-        return refused(3, 0);
+    if offset(file, 0) != HEAD_BYTES
+        || offset(file, 1) != end_of(file, 0)
+        || offset(file, 2) != end_of(file, 1)
+        || file.len() != end_of(file, 2)
+    {
+        return Err(Refusal::Pairs);
     }
-    if offset(file, 1) != end_of(file, 0) {
-        return refused(3, 0);
-    }
-    if offset(file, 2) != end_of(file, 1) {
-        return refused(3, 0);
-    }
-    if file.len() != end_of(file, 2) {
-        return refused(3, 0);
-    }
-    none()
+    Ok(())
 }

@@ -9,7 +9,5 @@ use Rattle.net.specs.Refusal.{none, first_of, node_refusal}
 use Rattle.net.proofs.read.nodes_refusal.Given as goal
 
 abbrev pub invariant-loop-i : goal.invariant-loop-i
-invariant-loop-i l = (l.i ≤ l.count) × (l.count ≡ node_count l.nodes) × (none ≡ first_of l.i (λ j. node_refusal l.nodes j))
+invariant-loop-i l = (l.i ≤ l.i-end) × (l.i-end ≡ node_count l.nodes) × (none ≡ first_of l.i (λ j. node_refusal l.nodes j))
 
-abbrev pub decreases-loop-i : goal.decreases-loop-i
-decreases-loop-i l = l.count - l.i
