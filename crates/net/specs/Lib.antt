@@ -1,14 +1,15 @@
 pub mod Layout
 pub mod Limits
 pub mod Net
-pub mod Numbers
 pub mod Stage
 pub mod Formed
 pub mod Refusal
+pub mod Numbers
 pub mod Call
 pub mod File
 pub mod Versions
 pub mod First
+pub mod Answered
 pub mod Reading
 pub mod Writing
 pub mod Accepted

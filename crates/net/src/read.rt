@@ -2,7 +2,7 @@
 ghost use Rattle.std.specs.Prelude.{◌≡◌, ◌+◌, ◌-◌, ◌*◌, ◌<◌, ◌≤◌, length};
 ghost use Rattle.net.specs.Layout.{wire_bytes};
 ghost use Rattle.net.specs.Net.{node_count, obstacle_count};
-ghost use Rattle.net.specs.Numbers.{checked};
+ghost use Rattle.net.specs.Numbers.{checked, answered};
 ghost use Rattle.net.specs.Refusal.{read_answer, read_refusal, net_refusal, first_of, sections_refusal, node_refusal, wire_refusal, obstacle_refusal};
 
 use crate::fields::{node_at, node_count, obstacle_at, obstacle_bytes, obstacle_count, wire_at};
@@ -14,9 +14,14 @@ use crate::{Answer, sections};
 pub fn read(file: &[u8]) -> Answer
     ensures { result ≡ read_answer file.now }
 {
-    read_refusal(file)
-        .map(|()| node_count(sections::nodes(file)) as u64)
-        .into()
+    count_nodes(file).into()
+}
+
+fn count_nodes(file: &[u8]) -> Result<u64, Refusal>
+    ensures { answered result ≡ read_answer file.now }
+{
+    read_refusal(file)?;
+    Ok(node_count(sections::nodes(file)) as u64)
 }
 
 // 2 to 11 and 20 on a file.

@@ -1,0 +1,17 @@
+-- `net::sections::section` meets its contract.
+-- Assumes nothing.
+use mathlib.Core.Path.{◌∙◌, ap, sym}
+use Rattle.net.specs.Refusal.{met}
+use Rattle.net.specs.Answered.{met_refusal}
+use Rattle.net.specs.Reading.{section_empty, section_stretch}
+use borrow.Author.Rules.{rules}
+use Rattle.net.proofs.sections.section.Goals as goal
+
+pub stretch-requires : goal.stretch-requires
+stretch-requires c = (search rules, sym (ap met c.in-Ok.ensures))
+
+pub returns-in-Ok : goal.returns-in-Ok
+returns-in-Ok c = c.stretch.ensures ∙ section_stretch _ _ (sym (ap met c.in-Ok.ensures))
+
+pub returns-in-Err : goal.returns-in-Err
+returns-in-Err c = section_empty _ _ (sym (ap met c.in-Err.ensures) ∙ met_refusal _)
