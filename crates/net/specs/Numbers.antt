@@ -1,6 +1,6 @@
 -- The refusals by their numbers and places, as document 01's and document 02's tables have them, and what a call answers.
 -- Assumes nothing.
-use Rattle.std.specs.Prelude.{ℕ, ⊤, Result, Ok, Err}
+use Rattle.std.specs.Prelude.{ℕ, Result, Ok, Err}
 use Rattle.net.specs.declared.refusal.Refusal.{Refusal}
 use Rattle.net.specs.declared.refusal.Refusal.TheVariants.{StageOutside, Head, Pairs, NodeSection, WireSection, ObstacleSection, NodeFlags, WireParent, WireLayerOrFactor, WireOblique, ObstacleCorners, ListOrder, JumperOutside, JumperBarred, NoLegalSet, LentBuffer, RouteForm, RoutePoint, Pin, ObstacleLayer}
 use Rattle.net.specs.declared.Answer.{Answer}
@@ -51,6 +51,6 @@ answered (Ok n) = record { number = 0; place = 0; count = n }
 answered (Err r) = record { number = number_of r; place = place_of r; count = 0 }
 
 -- what a check meets
-abbrev pub checked : Result ⊤ Refusal → Verdict
+abbrev pub checked : {T : Type 0} → Result T Refusal → Verdict
 checked (Ok _) = none
 checked (Err r) = refusal (number_of r) (place_of r)

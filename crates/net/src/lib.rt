@@ -18,3 +18,12 @@ pub struct Answer {
     pub place: u64,
     pub count: u64,
 }
+
+// A net: the version of its file and the sections.
+#[derive(Clone, Copy)]
+pub struct Net<'a> {
+    pub version: u16,
+    pub nodes: &'a [u8],
+    pub wires: &'a [u8],
+    pub obstacles: &'a [u8],
+}

@@ -1,14 +1,16 @@
 // The reader: the first refusal met in a net file, or in three sections.
-ghost use Rattle.std.specs.Prelude.{◌≡◌, ◌+◌, ◌-◌, ◌*◌, ◌<◌, ◌≤◌, length};
+ghost use Rattle.std.specs.Prelude.{◌≡◌, ◌+◌, ◌-◌, ◌*◌, ◌<◌, ◌≤◌, length, IfOk};
 ghost use Rattle.net.specs.Layout.{wire_bytes};
 ghost use Rattle.net.specs.Net.{node_count, obstacle_count};
 ghost use Rattle.net.specs.Numbers.{checked, answered};
-ghost use Rattle.net.specs.Refusal.{read_answer, read_refusal, net_refusal, first_of, sections_refusal, node_refusal, wire_refusal, obstacle_refusal};
+ghost use Rattle.net.specs.File.{version_of};
+ghost use Rattle.net.specs.Refusal.{nodes_of, wires_of, obstacles_of, read_answer, read_refusal, net_refusal, first_of, sections_refusal, node_refusal, wire_refusal, obstacle_refusal};
 
 use crate::fields::{node_at, node_count, obstacle_at, obstacle_bytes, obstacle_count, wire_at};
 use crate::layout::{MOST_FLAGS, MOST_LAYERS, MOST_NODES, MOST_OBSTACLES, NODE_BYTES, WIRE_BYTES};
 use crate::refusal::Refusal;
-use crate::{Answer, sections};
+use crate::sections::{Section, head_and_pairs_refusal, stretch, version};
+use crate::{Answer, Net};
 
 // Accepted with the count of its nodes, or the first of 2 to 11 and 20 that the file meets.
 pub fn read(file: &[u8]) -> Answer
@@ -20,21 +22,24 @@ pub fn read(file: &[u8]) -> Answer
 fn count_nodes(file: &[u8]) -> Result<u64, Refusal>
     ensures { answered result ≡ read_answer file.now }
 {
-    read_refusal(file)?;
-    Ok(node_count(sections::nodes(file)) as u64)
+    let net = net_of(file)?;
+    Ok(node_count(net.nodes) as u64)
 }
 
-// 2 to 11 and 20 on a file.
-pub fn read_refusal(file: &[u8]) -> Result<(), Refusal>
-    ensures { checked result ≡ read_refusal file.now }
+// The net of a file, or the first of 2 to 11 and 20.
+pub fn net_of(file: &[u8]) -> Result<Net<'_>, Refusal>
+    ensures verdict { checked result ≡ read_refusal file.now }
+    ensures net { IfOk result (λ net. (net.version ≡ version_of file.now) × (net.nodes.now ≡ nodes_of file.now) × (net.wires.now ≡ wires_of file.now) × (net.obstacles.now ≡ obstacles_of file.now)) }
 {
-    sections::head_and_pairs_refusal(file)?;
-    net_refusal(
-        sections::version(file),
-        sections::stretch(file, 0),
-        sections::stretch(file, 1),
-        sections::stretch(file, 2),
-    )
+    head_and_pairs_refusal(file)?;
+    let net = Net {
+        version: version(file),
+        nodes: stretch(file, Section::Nodes),
+        wires: stretch(file, Section::Wires),
+        obstacles: stretch(file, Section::Obstacles),
+    };
+    net_refusal(net.version, net.nodes, net.wires, net.obstacles)?;
+    Ok(net)
 }
 
 // 4 to 11 and 20 on three sections: the sections, then each node, each wire from wire 1 on, each obstacle.

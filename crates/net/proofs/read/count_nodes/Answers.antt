@@ -7,9 +7,9 @@ use Rattle.net.specs.Answered.{answered_err, answered_ok}
 use Rattle.net.specs.Reading.{read_answer_lem}
 use Rattle.net.proofs.read.count_nodes.Goals as goal
 
-pub returns-in_err-read_refusal : goal.returns-in_err-read_refusal
-returns-in_err-read_refusal c =
-    let p = err_from_is_err_and c.from_residual.result c.from_residual.ensures.1 in rw (p.1, p.2) (answered_err _ _ ∙ read_answer_lem _ _ _ _ c.in_err-read_refusal.ensures refl refl)
+pub returns-in_err-net : goal.returns-in_err-net
+returns-in_err-net c =
+    let p = err_from_is_err_and c.from_residual.result c.from_residual.ensures.1 in rw (p.1, p.2) (answered_err _ _ ∙ read_answer_lem _ _ _ _ c.in_err-net.ensures.verdict refl refl)
 
 pub returns : goal.returns
-returns c = answered_ok _ ∙ read_answer_lem _ none _ _ c.in_ok-read_refusal.ensures c.nodes.ensures c.node_count.ensures
+returns c = answered_ok _ ∙ read_answer_lem _ none _ _ c.in_ok-net.ensures.verdict c.in_ok-net.ensures.net.1 c.node_count.ensures

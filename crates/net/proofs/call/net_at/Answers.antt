@@ -1,15 +1,14 @@
--- `net::call::call_refusal` meets its contract.
+-- `net::call::net_at` meets its contract.
 -- Assumes nothing.
 use native.Mathlib.Omega.{arith}
 use Rattle.std.proofs.lemmas.Bool.Decides.{nat_tests}
-use Rattle.net.specs.Call.{call_refusal}
 use Rattle.net.specs.Refusal.{stage_refusal}
-use Rattle.net.proofs.call.call_refusal.Goals as goal
+use Rattle.net.proofs.call.net_at.Goals as goal
 
 pub returns-then-stage-eq0 : goal.returns-then-stage-eq0
-unfolding call_refusal stage_refusal
+unfolding stage_refusal
 returns-then-stage-eq0 c = grind (arith, nat_tests)
 
 pub returns : goal.returns
-unfolding call_refusal stage_refusal
+unfolding stage_refusal
 returns c = grind (arith, nat_tests)

@@ -1,14 +1,13 @@
--- `net::sections::section` meets its contract.
+-- `net::sections::section_or_empty` meets its contract.
 -- Assumes nothing.
 use mathlib.Core.Path.{◌∙◌, ap, sym}
 use Rattle.net.specs.Refusal.{met}
 use Rattle.net.specs.Answered.{met_refusal}
 use Rattle.net.specs.Reading.{section_empty, section_stretch}
-use borrow.Author.Rules.{rules}
-use Rattle.net.proofs.sections.section.Goals as goal
+use Rattle.net.proofs.sections.section_or_empty.Goals as goal
 
 pub stretch-requires : goal.stretch-requires
-stretch-requires c = (search rules, sym (ap met c.in-Ok.ensures))
+stretch-requires c = sym (ap met c.in-Ok.ensures)
 
 pub returns-in-Ok : goal.returns-in-Ok
 returns-in-Ok c = c.stretch.ensures ∙ section_stretch _ _ (sym (ap met c.in-Ok.ensures))
