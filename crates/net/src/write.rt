@@ -60,8 +60,8 @@ fn write_head(version: u16, nodes: usize, wires: usize, obstacles: usize, out: &
     requires { (head_bytes ≤ length out.old) × (head_bytes + nodes + wires < 18446744073709551616) }
     ensures { out.new ≡ over (head_of version nodes wires obstacles) out.old }
 {
-    put16(version, out);
-    put16(PAIR_COUNT, &mut out[PAIR_COUNT_AT..]);
+    copy(&version.to_le_bytes(), out);
+    copy(&PAIR_COUNT.to_le_bytes(), &mut out[PAIR_COUNT_AT..]);
     put_pairs(nodes, wires, obstacles, &mut out[PAIRS_AT..]);
 }
 
@@ -75,22 +75,6 @@ fn put_pairs(nodes: usize, wires: usize, obstacles: usize, out: &mut [u8])
     put_pair(HEAD_BYTES, nodes, out);
     put_pair(wires_at, wires, &mut out[PAIR_BYTES..]);
     put_pair(wires_at + wires, obstacles, &mut out[third..]);
-}
-
-// A number of 16 bits.
-fn put16(number: u16, out: &mut [u8])
-    requires { 2 ≤ length out.old }
-    ensures { out.new ≡ over (bytes16 number) out.old }
-{
-    out[..2].copy_from_slice(&number.to_le_bytes());
-}
-
-// A number of 32 bits.
-fn put32(number: usize, out: &mut [u8])
-    requires { 4 ≤ length out.old }
-    ensures { out.new ≡ over (bytes32 number) out.old }
-{
-    out[..4].copy_from_slice(&((number & 0xffff_ffff) as u32).to_le_bytes());
 }
 
 // An offset and, behind it, a length.
@@ -118,4 +102,12 @@ fn copy_two(first: &[u8], second: &[u8], out: &mut [u8])
     let at = first.len();
     copy(first, out);
     copy(second, &mut out[at..]);
+}
+
+// The low 32 bits of a number.
+fn put32(number: usize, out: &mut [u8])
+    requires { 4 ≤ length out.old }
+    ensures { out.new ≡ over (bytes32 number) out.old }
+{
+    out[..4].copy_from_slice(&((number & 0xffff_ffff) as u32).to_le_bytes());
 }
