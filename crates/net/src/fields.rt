@@ -58,7 +58,9 @@ pub fn node_count(nodes: &[u8]) -> usize
 
 pub fn node_at(nodes: &[u8], i: usize) -> Node
     requires { i < node_count nodes.now }
-    ensures { (result.x ≡ node_x nodes.now i) × (result.y ≡ node_y nodes.now i) × (result.flags ≡ node_flags nodes.now i) }
+    ensures x { result.x ≡ node_x nodes.now i }
+    ensures y { result.y ≡ node_y nodes.now i }
+    ensures flags { result.flags ≡ node_flags nodes.now i }
 {
     let at = NODE_BYTES * i;
     Node {
@@ -84,7 +86,9 @@ pub fn is_source(flags: u8) -> bool
 
 pub fn wire_at(wires: &[u8], i: usize) -> Wire
     requires { (0 < i) × (wire_bytes * i ≤ length wires.now) }
-    ensures { (result.parent ≡ wire_parent wires.now i) × (result.layer ≡ wire_layer wires.now i) × (result.factor ≡ wire_factor wires.now i) }
+    ensures parent { result.parent ≡ wire_parent wires.now i }
+    ensures layer { result.layer ≡ wire_layer wires.now i }
+    ensures factor { result.factor ≡ wire_factor wires.now i }
 {
     let at = WIRE_BYTES * (i - 1);
     Wire {
@@ -122,7 +126,10 @@ pub fn obstacle_count(version: u16, obstacles: &[u8]) -> usize
 // An obstacle of version 1 has no layer: it reads as the highest one.
 pub fn obstacle_at(version: u16, obstacles: &[u8], k: usize) -> Obstacle
     requires { k < obstacle_count version obstacles.now }
-    ensures corners { (result.x1 ≡ obstacle_x1 version obstacles.now k) × (result.y1 ≡ obstacle_y1 version obstacles.now k) × (result.x2 ≡ obstacle_x2 version obstacles.now k) × (result.y2 ≡ obstacle_y2 version obstacles.now k) }
+    ensures x1 { result.x1 ≡ obstacle_x1 version obstacles.now k }
+    ensures y1 { result.y1 ≡ obstacle_y1 version obstacles.now k }
+    ensures x2 { result.x2 ≡ obstacle_x2 version obstacles.now k }
+    ensures y2 { result.y2 ≡ obstacle_y2 version obstacles.now k }
     ensures layer { result.layer ≡ obstacle_layer version obstacles.now k }
 {
     let at = obstacle_bytes(version) * k;
