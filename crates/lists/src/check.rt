@@ -1,5 +1,6 @@
 // Refusals 12 to 14: on a whole list, and 13 and 14 on one point.
 ghost use Rattle.std.specs.Prelude.{◌≡◌, ◌||◌, ◌-◌, ◌<◌, eqb};
+ghost use Rattle.net.specs.Numbers.{checked};
 ghost use Rattle.net.specs.Refusal.{none, net_refusal};
 ghost use Rattle.net.specs.Stage.{stage_of};
 ghost use Rattle.pieces.specs.Legal.{after};
@@ -7,10 +8,9 @@ ghost use Rattle.pieces.specs.JumperList.{entry_count, point_refusal, entry_refu
 ghost use Rattle.lists.specs.EntriesChecked.{WiresChecked, lies_inside};
 
 use crate::entries::{entry_count, entry_position, entry_wire};
-use net::Refusal;
-use net::answers::{none, refused};
 use net::fields::{is_present, node_count};
 use net::layout::ENTRY_BYTES;
+use net::refusal::Refusal;
 use points::{is_barred, length_of};
 
 // Entry e stands after the one before, if there is one.
@@ -21,15 +21,8 @@ fn is_after(list: &[u8], e: usize) -> bool
     if e == 0 {
         return true;
     }
-    let before = entry_wire(list, e - 1);
-    let wire = entry_wire(list, e);
-    if before < wire {
-        return true;
-    }
-    if wire < before {
-        return false;
-    }
-    entry_position(list, e - 1) < entry_position(list, e)
+    let before = (entry_wire(list, e - 1), entry_position(list, e - 1));
+    before < (entry_wire(list, e), entry_position(list, e))
 }
 
 // There is a wire i, the stage has it, and position t lies inside it.
@@ -37,16 +30,7 @@ fn lies_inside(stage: u8, nodes: &[u8], wires: &[u8], i: usize, t: u32) -> bool
     requires { WiresChecked nodes.now wires.now }
     ensures { result ≡ lies_inside nodes.now wires.now stage i t }
 {
-    if node_count(nodes) <= i {
-        return false;
-    }
-    if !is_present(stage, wires, i) {
-        return false;
-    }
-    if t == 0 {
-        return false;
-    }
-    t < length_of(nodes, wires, i)
+    i < node_count(nodes) && is_present(stage, wires, i) && 0 < t && t < length_of(nodes, wires, i)
 }
 
 // Position t of wire i: 13, 14.
@@ -59,17 +43,17 @@ pub fn point_refusal(
     i: usize,
     t: u32,
     place: u64,
-) -> Refusal
+) -> Result<(), Refusal>
     requires { net_refusal version nodes.now wires.now obstacles.now ≡ none }
-    ensures { result ≡ point_refusal (stage_of version nodes.now wires.now obstacles.now stage) i t place }
+    ensures { checked result ≡ point_refusal (stage_of version nodes.now wires.now obstacles.now stage) i t place }
 {
     if !lies_inside(stage, nodes, wires, i, t) {
-        return refused(13, place);
+        return Err(Refusal::JumperOutside(place));
     }
     if is_barred(version, nodes, wires, obstacles, i, t) {
-        return refused(14, place);
+        return Err(Refusal::JumperBarred(place));
     }
-    none()
+    Ok(())
 }
 
 // Entry e: 12, then 13 and 14 on its point.
@@ -81,13 +65,13 @@ fn entry_refusal(
     obstacles: &[u8],
     list: &[u8],
     e: usize,
-) -> Refusal
+) -> Result<(), Refusal>
     requires obstacles_value { net_refusal version nodes.now wires.now obstacles.now ≡ none }
     requires e_bound { e < entry_count list.now }
-    ensures { result ≡ entry_refusal (stage_of version nodes.now wires.now obstacles.now stage) list.now e }
+    ensures { checked result ≡ entry_refusal (stage_of version nodes.now wires.now obstacles.now stage) list.now e }
 {
     if !is_after(list, e) {
-        return refused(12, e as u64);
+        return Err(Refusal::ListOrder(e as u64));
     }
     let i = entry_wire(list, e);
     let t = entry_position(list, e);
@@ -102,21 +86,15 @@ pub fn list_refusal(
     wires: &[u8],
     obstacles: &[u8],
     list: &[u8],
-) -> Refusal
+) -> Result<(), Refusal>
     requires { net_refusal version nodes.now wires.now obstacles.now ≡ none }
-    ensures { result ≡ list_refusal (stage_of version nodes.now wires.now obstacles.now stage) list.now }
+    ensures { checked result ≡ list_refusal (stage_of version nodes.now wires.now obstacles.now stage) list.now }
 {
     if list.len() % ENTRY_BYTES != 0 {
-        return refused(12, 0);
+        return Err(Refusal::ListOrder(0));
     }
-    let count = entry_count(list);
-    let mut e = 0;
-    while e < count {
-        let r = entry_refusal(version, stage, nodes, wires, obstacles, list, e);
-        if r.number != 0 {
-            return r;
-        }
-        e += 1;
+    for e in 0..entry_count(list) {
+        entry_refusal(version, stage, nodes, wires, obstacles, list, e)?;
     }
-    none()
+    Ok(())
 }
