@@ -12,7 +12,7 @@ use crate::read::net_of;
 use crate::refusal::Refusal;
 
 // The net of a file, or the first of 1 on the stage, 2 to 11 and 20 on the file.
-pub fn net_at(stage: u32, file: &[u8]) -> Result<Net<'_>, Refusal>
+pub fn accepted_net(stage: u32, file: &[u8]) -> Result<Net<'_>, Refusal>
     ensures verdict { checked result ≡ call_refusal stage file.now }
     ensures net { IfOk result (λ net. (net.version ≡ version_of file.now) × (net.nodes.now ≡ nodes_of file.now) × (net.wires.now ≡ wires_of file.now) × (net.obstacles.now ≡ obstacles_of file.now)) }
 {

@@ -2,6 +2,9 @@
 // Definitions: specs/.
 #![tactic(auto)]
 
+ghost use Rattle.std.specs.Prelude.{◌≡◌};
+ghost use Rattle.net.specs.Refusal.{none, net_refusal};
+
 pub mod call;
 pub mod fields;
 pub mod layout;
@@ -19,11 +22,12 @@ pub struct Answer {
     pub count: u64,
 }
 
-// A net: the version of its file and the sections.
+// An accepted net: its version and sections, on which none of 4 to 11 and 20 is met.
 #[derive(Clone, Copy)]
 pub struct Net<'a> {
     pub version: u16,
     pub nodes: &'a [u8],
     pub wires: &'a [u8],
     pub obstacles: &'a [u8],
+    ghost accepted: { net_refusal version nodes.now wires.now obstacles.now ≡ none },
 }

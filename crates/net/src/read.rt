@@ -32,14 +32,17 @@ pub fn net_of(file: &[u8]) -> Result<Net<'_>, Refusal>
     ensures net { IfOk result (λ net. (net.version ≡ version_of file.now) × (net.nodes.now ≡ nodes_of file.now) × (net.wires.now ≡ wires_of file.now) × (net.obstacles.now ≡ obstacles_of file.now)) }
 {
     head_and_pairs_refusal(file)?;
-    let net = Net {
-        version: version(file),
-        nodes: stretch(file, Section::Nodes),
-        wires: stretch(file, Section::Wires),
-        obstacles: stretch(file, Section::Obstacles),
-    };
-    net_refusal(net.version, net.nodes, net.wires, net.obstacles)?;
-    Ok(net)
+    let version = version(file);
+    let nodes = stretch(file, Section::Nodes);
+    let wires = stretch(file, Section::Wires);
+    let obstacles = stretch(file, Section::Obstacles);
+    net_refusal(version, nodes, wires, obstacles)?;
+    Ok(Net {
+        version,
+        nodes,
+        wires,
+        obstacles,
+    })
 }
 
 // 4 to 11 and 20 on three sections: the sections, then each node, each wire from wire 1 on, each obstacle.

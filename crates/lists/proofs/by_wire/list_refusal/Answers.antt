@@ -26,9 +26,6 @@ returns-then-i-wire-2 c =
     list_entries _ _ c.if-list-ne0.false
     (first-here _ _ _ (omega arith) i.0 (entry_not_after _ _ _ (after_lower _ _ c.entry_wire-i.ensures i.1 c.if-i-wire-2.true)) refl)
 
-pub present_length-length-requires : goal.present_length-length-requires
-present_length-length-requires c = wires-checked _ _ _ _ c.requires
-
 pub returns-then-t-from : goal.returns-then-t-from
 returns-then-t-from c =
     let i = c.loop-e.invariant in
@@ -40,20 +37,20 @@ position_refusal-requires c =
     let i = c.loop-e.invariant in
     let on = c.entry_wire-i.ensures in
     let at = c.entry_position-t.ensures in
-    let on-wire : OnWire c.args.nodes.now c.args.wires.now c.args.stage c.args.list.now c.loop-e.e c.if-i-wire.wire c.if-i-wire.length =
+    let on-wire : OnWire c.args.net.nodes.now c.args.net.wires.now c.args.stage c.args.list.now c.loop-e.e c.if-i-wire.wire c.if-i-wire.length =
     elim c.if-i-wire.branch [
       | then-i-wire+else-i-wire-2 w ↦ on_later _ _ _ _ _ on i.1 w.if-i-wire.true w.if-i-wire-2.false w.wire-is (w.length-is ∙ w.present_length-length.ensures)
       | else-i-wire+else-t-from w ↦ on_same _ _ _ _ _ on at i.1 i.2 w.if-i-wire.false w.if-t-from.false w.wire-is (w.length-is ∙ i.3)
     ]
     in
-    on_wire_checked _ _ _ _ _ (wires-checked _ _ _ _ c.requires) on-wire on
+    on_wire_checked _ _ _ _ _ (wires-checked _ _ _ _ c.args.net.accepted) on-wire on
 
 pub returns-in_err-position_refusal : goal.returns-in_err-position_refusal
 returns-in_err-position_refusal c =
     let i = c.loop-e.invariant in
     let on = c.entry_wire-i.ensures in
     let at = c.entry_position-t.ensures in
-    let on-wire : OnWire c.args.nodes.now c.args.wires.now c.args.stage c.args.list.now c.loop-e.e c.if-i-wire.wire c.if-i-wire.length =
+    let on-wire : OnWire c.args.net.nodes.now c.args.net.wires.now c.args.stage c.args.list.now c.loop-e.e c.if-i-wire.wire c.if-i-wire.length =
     elim c.if-i-wire.branch [
       | then-i-wire+else-i-wire-2 w ↦ on_later _ _ _ _ _ on i.1 w.if-i-wire.true w.if-i-wire-2.false w.wire-is (w.length-is ∙ w.present_length-length.ensures)
       | else-i-wire+else-t-from w ↦ on_same _ _ _ _ _ on at i.1 i.2 w.if-i-wire.false w.if-t-from.false w.wire-is (w.length-is ∙ i.3)
@@ -75,7 +72,7 @@ loop-e-preserved c =
     let i = c.loop-e.invariant in
     let on = c.entry_wire-i.ensures in
     let at = c.entry_position-t.ensures in
-    let on-wire : OnWire c.args.nodes.now c.args.wires.now c.args.stage c.args.list.now c.loop-e.e c.if-i-wire.wire c.if-i-wire.length =
+    let on-wire : OnWire c.args.net.nodes.now c.args.net.wires.now c.args.stage c.args.list.now c.loop-e.e c.if-i-wire.wire c.if-i-wire.length =
     elim c.if-i-wire.branch [
       | then-i-wire+else-i-wire-2 w ↦ on_later _ _ _ _ _ on i.1 w.if-i-wire.true w.if-i-wire-2.false w.wire-is (w.length-is ∙ w.present_length-length.ensures)
       | else-i-wire+else-t-from w ↦ on_same _ _ _ _ _ on at i.1 i.2 w.if-i-wire.false w.if-t-from.false w.wire-is (w.length-is ∙ i.3)

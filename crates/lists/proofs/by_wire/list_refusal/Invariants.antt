@@ -9,7 +9,7 @@ use Rattle.lists.proofs.by_wire.list_refusal.Given as goal
 
 abbrev pub invariant-loop-e : goal.invariant-loop-e
 invariant-loop-e l =
-    (none ≡ first_of l.e (λ d. entry_refusal (stage_of l.version l.nodes l.wires l.obstacles l.stage) l.list d))
+    (none ≡ first_of l.e (λ d. entry_refusal (stage_of l.net.version l.net.nodes.now l.net.wires.now l.net.obstacles.now l.stage) l.list d))
     × (l.wire ≡ wire_before l.list l.e)
     × (l.from ≡ position_from l.list l.e)
-    × (l.length ≡ present_length l.nodes l.wires l.stage l.wire)
+    × (l.length ≡ present_length l.net.nodes.now l.net.wires.now l.stage l.wire)

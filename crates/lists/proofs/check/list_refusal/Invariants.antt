@@ -8,4 +8,4 @@ use Rattle.lists.proofs.check.list_refusal.Given as goal
 
 abbrev pub invariant-loop-e : goal.invariant-loop-e
 invariant-loop-e l =
-    (none ≡ first_of l.e (λ d. entry_refusal (stage_of l.version l.nodes l.wires l.obstacles l.stage) l.list d))
+    (none ≡ first_of l.e (λ d. entry_refusal (stage_of l.net.version l.net.nodes.now l.net.wires.now l.net.obstacles.now l.stage) l.list d))

@@ -12,33 +12,33 @@ pub returns-in_err-head_and_pairs_refusal-clause-verdict : goal.returns-in_err-h
 returns-in_err-head_and_pairs_refusal-clause-verdict c =
     let p = err_from_is_err_and c.from_residual.result c.from_residual.ensures.1 in rw (p.1, p.2) (read_head _ _ c.in_err-head_and_pairs_refusal.ensures (met_refusal _))
 
-pub version-requires : goal.version-requires
-version-requires c = (head_right_of _ (sym (ap met c.in_ok-head_and_pairs_refusal.ensures))).long
+pub version-version-requires : goal.version-version-requires
+version-version-requires c = (head_right_of _ (sym (ap met c.in_ok-head_and_pairs_refusal.ensures))).long
 
-pub stretch-requires : goal.stretch-requires
-stretch-requires c = sym (ap met c.in_ok-head_and_pairs_refusal.ensures)
+pub stretch-nodes-requires : goal.stretch-nodes-requires
+stretch-nodes-requires c = sym (ap met c.in_ok-head_and_pairs_refusal.ensures)
 
-pub stretch-requires-2 : goal.stretch-requires-2
-stretch-requires-2 c = sym (ap met c.in_ok-head_and_pairs_refusal.ensures)
+pub stretch-wires-requires : goal.stretch-wires-requires
+stretch-wires-requires c = sym (ap met c.in_ok-head_and_pairs_refusal.ensures)
 
-pub stretch-requires-3 : goal.stretch-requires-3
-stretch-requires-3 c = sym (ap met c.in_ok-head_and_pairs_refusal.ensures)
+pub stretch-obstacles-requires : goal.stretch-obstacles-requires
+stretch-obstacles-requires c = sym (ap met c.in_ok-head_and_pairs_refusal.ensures)
 
 pub returns-in_err-net_refusal-clause-verdict : goal.returns-in_err-net_refusal-clause-verdict
 returns-in_err-net_refusal-clause-verdict c =
     let p = err_from_is_err_and c.from_residual-in_err-net_refusal.result c.from_residual-in_err-net_refusal.ensures.1 in rw (p.1, p.2) (read_net _ _ none c.in_ok-head_and_pairs_refusal.ensures refl
-    (rw (← c.version.ensures, ← c.stretch.ensures, ← c.stretch-2.ensures, ← c.stretch-3.ensures) c.in_err-net_refusal.ensures))
+    (rw (← c.version-version.ensures, ← c.stretch-nodes.ensures, ← c.stretch-wires.ensures, ← c.stretch-obstacles.ensures) c.in_err-net_refusal.ensures))
 
 pub returns-clause-verdict : goal.returns-clause-verdict
 returns-clause-verdict c =
     read_net _ _ none c.in_ok-head_and_pairs_refusal.ensures refl
-    (rw (← c.version.ensures, ← c.stretch.ensures, ← c.stretch-2.ensures, ← c.stretch-3.ensures) c.in_ok-net_refusal.ensures)
+    (rw (← c.version-version.ensures, ← c.stretch-nodes.ensures, ← c.stretch-wires.ensures, ← c.stretch-obstacles.ensures) c.in_ok-net_refusal.ensures)
 
 pub returns-clause-net : goal.returns-clause-net
 returns-clause-net c =
     let m = sym (ap met c.in_ok-head_and_pairs_refusal.ensures) in (
-      c.version.ensures,
-      c.stretch.ensures ∙ section_stretch _ _ m,
-      c.stretch-2.ensures ∙ section_stretch _ _ m,
-      c.stretch-3.ensures ∙ section_stretch _ _ m,
+      c.version-version.ensures,
+      c.stretch-nodes.ensures ∙ section_stretch _ _ m,
+      c.stretch-wires.ensures ∙ section_stretch _ _ m,
+      c.stretch-obstacles.ensures ∙ section_stretch _ _ m,
     )

@@ -1,9 +1,9 @@
--- `net::call::net_at` meets its contract.
+-- `net::call::accepted_net` meets its contract.
 -- Assumes nothing.
 use native.Mathlib.Omega.{arith}
 use Rattle.std.proofs.lemmas.Bool.Decides.{nat_tests}
 use Rattle.net.specs.Refusal.{stage_refusal}
-use Rattle.net.proofs.call.net_at.Goals as goal
+use Rattle.net.proofs.call.accepted_net.Goals as goal
 
 pub returns-then-stage-eq0 : goal.returns-then-stage-eq0
 unfolding stage_refusal
