@@ -1,5 +1,5 @@
 // The points of each wire that may be cut: its lowest and its highest position that is inside the wire, on a present wire, and not barred.
-ghost use Rattle.std.specs.Prelude.{◌<◌, ◌≤◌, length};
+ghost use Rattle.std.specs.Prelude.{◌<◌, ◌≤◌, length, unwrap_or};
 ghost use Rattle.net.specs.Layout.{newest};
 ghost use Rattle.net.specs.Net.{node_count};
 ghost use Rattle.net.specs.Stage.{stage_of};
@@ -8,32 +8,30 @@ ghost use Rattle.clusters.specs.FirstPasses.{Wired, LowestFree, HighestFree, End
 use net::fields::{is_present, node_count};
 use points::{highest_cuttable, length_of, lowest_cuttable};
 
-// The lowest position of wire i that may be cut, or 0 where there is none.
-fn lowest_of(nodes: &[u8], wires: &[u8], obstacles: &[u8], stage: u8, i: usize) -> u64
+// The lowest position of wire i that may be cut.
+fn lowest_of(nodes: &[u8], wires: &[u8], obstacles: &[u8], stage: u8, i: usize) -> Option<u32>
     requires { Wired nodes.now wires.now × (i < node_count nodes.now) }
-    ensures { LowestFree (stage_of newest nodes.now wires.now obstacles.now stage) i result }
+    ensures { LowestFree (stage_of newest nodes.now wires.now obstacles.now stage) i (unwrap_or result 0) }
 {
-    if is_present(stage, wires, i) {
-        return u64::from(lowest_cuttable(nodes, wires, obstacles, i, 1));
+    if !is_present(stage, wires, i) {
+        return None;
     }
-    0
+    lowest_cuttable(nodes, wires, obstacles, i, 1)
 }
 
 // The highest one.
-fn highest_of(nodes: &[u8], wires: &[u8], obstacles: &[u8], stage: u8, i: usize) -> u64
+fn highest_of(nodes: &[u8], wires: &[u8], obstacles: &[u8], stage: u8, i: usize) -> Option<u32>
     requires { Wired nodes.now wires.now × (i < node_count nodes.now) }
-    ensures { HighestFree (stage_of newest nodes.now wires.now obstacles.now stage) i result }
+    ensures { HighestFree (stage_of newest nodes.now wires.now obstacles.now stage) i (unwrap_or result 0) }
 {
-    if is_present(stage, wires, i) {
-        let length = length_of(nodes, wires, i);
-        if 0 < length {
-            return u64::from(highest_cuttable(nodes, wires, obstacles, i, length - 1));
-        }
+    if !is_present(stage, wires, i) {
+        return None;
     }
-    0
+    let last = length_of(nodes, wires, i).checked_sub(1)?;
+    highest_cuttable(nodes, wires, obstacles, i, last)
 }
 
-// The lowest and the highest position of each wire that may be cut.
+// The lowest and the highest position of each wire that may be cut, 0 where there is none.
 pub fn find_cuttable(
     nodes: &[u8],
     wires: &[u8],
@@ -47,7 +45,7 @@ pub fn find_cuttable(
     ensures { Ends (stage_of newest nodes.now wires.now obstacles.now stage) lo.new hi.new }
 {
     for i in 0..node_count(nodes) {
-        lo[i] = lowest_of(nodes, wires, obstacles, stage, i);
-        hi[i] = highest_of(nodes, wires, obstacles, stage, i);
+        lo[i] = u64::from(lowest_of(nodes, wires, obstacles, stage, i).unwrap_or(0));
+        hi[i] = u64::from(highest_of(nodes, wires, obstacles, stage, i).unwrap_or(0));
     }
 }

@@ -3,7 +3,7 @@ ghost use Rattle.std.specs.Prelude.{◌≡◌, false, ℕ, ◌<◌, ◌≤◌, l
 ghost use Rattle.net.specs.Net.{node_count};
 ghost use Rattle.clusters.specs.FirstPasses.{Falling, source_in, gate_of, gathered};
 
-use net::fields::{is_gate, is_source, node_count, node_flags};
+use net::fields::{is_gate, is_source, node_at, node_count};
 
 // Which components have a source.
 pub fn mark_sources(nodes: &[u8], component: &[usize], sourced: &mut [bool])
@@ -14,7 +14,7 @@ pub fn mark_sources(nodes: &[u8], component: &[usize], sourced: &mut [bool])
     for i in 0..node_count(nodes) {
         // no node below i is in component i: the lowest node of a component is no higher than its nodes
         sourced[i] = false;
-        if is_source(node_flags(nodes, i)) {
+        if is_source(node_at(nodes, i).flags) {
             sourced[component[i]] = true;
         }
     }
@@ -25,7 +25,7 @@ fn gate_of(nodes: &[u8], component: &[usize], sourced: &[bool], i: usize) -> u64
     requires { (i < node_count nodes.now) × (i < length component.now) × (get_or component.now i 0 < length sourced.now) }
     ensures { result ≡ gate_of nodes.now component.now sourced.now i }
 {
-    u64::from(is_gate(node_flags(nodes, i)) && !sourced[component[i]])
+    u64::from(is_gate(node_at(nodes, i).flags) && !sourced[component[i]])
 }
 
 // The gates of each cluster whose components have no source.

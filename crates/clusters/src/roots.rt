@@ -4,7 +4,7 @@ ghost use Rattle.net.specs.Layout.{wire_bytes};
 ghost use Rattle.net.specs.Net.{node_count, wire_parent};
 ghost use Rattle.clusters.specs.FirstPasses.{Wired, is_present, whole, Leads, host_of};
 
-use net::fields::{is_present, node_count, wire_parent};
+use net::fields::{is_present, node_count, wire_at};
 
 // The node that each node leads to, lower nodes first: where its parent leads if its wire joins them, else itself.
 fn find_leaders<F: Fn(usize) -> bool>(nodes: &[u8], wires: &[u8], joined: F, leader: &mut [usize])
@@ -16,7 +16,7 @@ fn find_leaders<F: Fn(usize) -> bool>(nodes: &[u8], wires: &[u8], joined: F, lea
 {
     for i in 0..node_count(nodes) {
         leader[i] = if joined(i) {
-            leader[wire_parent(wires, i)]
+            leader[wire_at(wires, i).parent]
         } else {
             i
         };
@@ -53,7 +53,7 @@ fn host_of(wires: &[u8], lo: &[u64], root: &[usize], i: usize) -> usize
     ensures { result ≡ host_of wires.now lo.now root.now i }
 {
     if 0 < lo[i] {
-        return root[wire_parent(wires, i)];
+        return root[wire_at(wires, i).parent];
     }
     0
 }

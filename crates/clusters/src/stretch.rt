@@ -5,14 +5,14 @@ ghost use Rattle.net.specs.Limits.{length_bound, factor_bound, wire_weight_bound
 ghost use Rattle.net.specs.Net.{wire_factor};
 ghost use Rattle.clusters.specs.Stretch.{stretch_weight};
 
-use net::fields::wire_factor;
+use net::fields::wire_at;
 
 // A wire's factor, as a weight.
 pub fn weight_of_step(wires: &[u8], i: usize) -> u64
     requires { (0 < i) × (wire_bytes * i ≤ length wires.now) }
     ensures { (result ≡ wire_factor wires.now i) × (result < factor_bound) }
 {
-    u64::from(wire_factor(wires, i))
+    u64::from(wire_at(wires, i).factor)
 }
 
 // The weight of a wire from one position to another.

@@ -6,10 +6,9 @@ use borrow.Author.Tests.{lt-ltb, le-ltb}
 use Rattle.laws.specs.Lists.{over, zeros}
 use Rattle.laws.specs.Place.{place}
 use Rattle.reports.specs.ListRight.{AtMost}
-use Rattle.net.specs.declared.Refusal.{Refusal}
 use Rattle.net.specs.Layout.{record_bytes}
 use Rattle.net.specs.Stage.{Stage}
-use Rattle.net.specs.Refusal.{none, refusal, met, or_else, lent_refusal, answer}
+use Rattle.net.specs.Refusal.{Verdict, none, refusal, met, or_else, lent_refusal, answer}
 use Rattle.net.specs.Call.{net_at, call_refusal}
 use Rattle.net.specs.First.{first-met, second-first}
 use Rattle.pieces.specs.JumperList.{list_refusal, set_of}
@@ -22,7 +21,7 @@ pub zeros-most : (n : ℕ) → AtMost 0 (replicate n 0)
 zeros-most n h = le_of_eq (zeros n h)
 
 -- a refused answer has count 0 whatever is counted
-pub answer-refused : (r : Refusal) (m n : ℕ) → met r ≡ true → answer r m ≡ answer r n
+pub answer-refused : (r : Verdict) (m n : ℕ) → met r ≡ true → answer r m ≡ answer r n
 unfolding answer
 answer-refused r m n h = rw h
 

@@ -1,9 +1,8 @@
 -- `repairs::repair_net` meets its contract: each pass has what it requires from those before, and the answers are those of the promise.
 -- Assumes nothing.
 use Rattle.std.proofs.Common.{refl, sym, ◌∙◌, ap, rules, arith}
-use Rattle.net.specs.declared.Refusal.{Refusal}
 use Rattle.net.specs.Layout.{newest}
-use Rattle.net.specs.Refusal.{answer}
+use Rattle.net.specs.Refusal.{Verdict, answer}
 use Rattle.net.specs.Accepted.{net-right}
 use Rattle.net.specs.Stage.{stage_of}
 use Rattle.clusters.specs.FitsLaws.{wired_of}
@@ -25,7 +24,7 @@ returns-then-find_hopeless c =
     let right = net-right newest a.nodes.now a.wires.now a.obstacles.now c.requires in
     no_legal_set
     (none_of a.nodes.now a.wires.now a.obstacles.now a.stage right c.first_passes.new.c c.first_passes.ensures a.limit (sym c.find_hopeless.ensures.0 ∙ c.if-find_hopeless.true))
-    (c.answered.ensures ∙ ap (λ (x : Refusal). answer x 0) c.refused.ensures) refl
+    (c.answered.ensures ∙ ap (λ (x : Verdict). answer x 0) c.refused.ensures) refl
 
 pub count_pass-points-requires : goal.count_pass-points-requires
 count_pass-points-requires c =
@@ -54,7 +53,7 @@ returns-then-out-needed c =
     let a = c.args in
     let right = net-right newest a.nodes.now a.wires.now a.obstacles.now c.requires in
     let some = planned-some a.nodes.now a.wires.now a.obstacles.now a.stage right c.first_passes.new.c c.first_passes.ensures a.limit c.count_pass-points.new.k c.count_pass-points.result c.count_pass-points.ensures in
-    judged-short some.1 c.if-out-needed.true (c.answered-then-out-needed.ensures ∙ ap (λ (x : Refusal). answer x 0) c.refused-then-out-needed.ensures)
+    judged-short some.1 c.if-out-needed.true (c.answered-then-out-needed.ensures ∙ ap (λ (x : Verdict). answer x 0) c.refused-then-out-needed.ensures)
 
 pub choose-requires : goal.choose-requires
 choose-requires c =
@@ -103,5 +102,5 @@ returns c =
     let right = net-right newest a.nodes.now a.wires.now a.obstacles.now c.requires in
     let first = c.first_passes.ensures in
     let plan = planned a.nodes.now a.wires.now a.obstacles.now a.stage right c.first_passes.new.c first a.limit c.count_pass-points.new.k c.count_pass-points.result c.count_pass-points.ensures c.choose.ensures.0 c.choose.new.cut_high c.choose.ensures.1 in
-    judged-done plan (omega (arith, c.if-out-needed.false)) (c.answered-2.ensures ∙ ap (λ (x : Refusal). answer x c.count_pass-points.result) c.none.ensures)
+    judged-done plan (omega (arith, c.if-out-needed.false)) (c.answered-2.ensures ∙ ap (λ (x : Verdict). answer x c.count_pass-points.result) c.none.ensures)
     (rw first.n_is at c.write_list.ensures.1)

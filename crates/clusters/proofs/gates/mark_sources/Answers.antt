@@ -12,7 +12,7 @@ loop-i-preserved c =
     let a = c.args in
     let test : ℕ → Bool = λ j. is_source (node_flags a.nodes.now j) in
     let falling : Falling (l.i + 1) a.component.now = λ j p. c.requires.falling j (omega arith) in
-    let same = sym (c.is_source.ensures ∙ ap is_source c.node_flags.ensures) in
+    let same = sym (c.is_source.ensures ∙ ap is_source c.node_at.ensures.flags) in
     elim c.if-is_source.branch [
       | then-is_source w ↦ rw w.sourced-is (mark_here a.component.now test l.i l.sourced (omega arith) falling l.invariant (same ∙ w.if-is_source.true))
       | else-is_source w ↦ rw w.sourced-is (mark_not a.component.now test l.i l.sourced (omega arith) falling l.invariant (same ∙ w.if-is_source.false))

@@ -11,7 +11,7 @@ loop-i-preserved g c =
     let a = c.args in
     let leads : c.if-joined.leader ≡ cond c.joined.result (get_or l.leader (wire_parent a.wires.now l.i) 0) l.i =
     elim c.if-joined.branch [
-      | then-joined w ↦ rw w.if-joined.true (w.leader-is ∙ ap (λ p. get_or l.leader p 0) w.wire_parent.ensures)
+      | then-joined w ↦ rw w.if-joined.true (w.leader-is ∙ ap (λ p. get_or l.leader p 0) w.wire_at.ensures.parent)
       | else-joined w ↦ rw w.if-joined.false w.leader-is
     ] in
     leads_more (wire_parent a.wires.now) (goal.F-post g a.joined) l.i c.if-joined.leader l.leader c.joined.result (omega arith) c.joined.ensures leads
