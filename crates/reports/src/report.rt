@@ -6,7 +6,7 @@ ghost use Rattle.records.specs.ListRight.{ListRight, ListAccepted};
 ghost use Rattle.reports.specs.ListRight.{RecordsFit};
 
 use crate::count::piece_count;
-use crate::gather::gather;
+use crate::gather::{NO_PIECE, gather};
 use crate::write::write_records;
 use lists::check::list_refusal;
 use net::answers::{answered, none, refused};
@@ -60,21 +60,7 @@ pub fn write_pieces(
     ensures { (v : ℕ) (os : List ℕ) → ListRight v nodes.now wires.now stage jumpers.now os →
         out.new ≡ pieces_buffer (stage_of v nodes.now wires.now os stage) limit jumpers.now out.old }
 {
-    let mut lowest = [0usize; MOST_NODES];
-    let mut weight = [0u64; MOST_NODES];
-    let mut flags = [0u8; MOST_NODES];
-    let mut layers = [0u16; MOST_NODES];
-    gather(
-        stage,
-        nodes,
-        wires,
-        jumpers,
-        &mut lowest,
-        &mut weight,
-        &mut flags,
-        &mut layers,
-    );
-    write_records(
-        stage, limit, nodes, wires, jumpers, &lowest, &weight, &flags, &layers, out,
-    );
+    let mut pieces = [NO_PIECE; MOST_NODES];
+    gather(stage, nodes, wires, jumpers, &mut pieces);
+    write_records(stage, limit, nodes, wires, jumpers, &pieces, out);
 }

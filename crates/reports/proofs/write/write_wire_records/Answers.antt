@@ -15,8 +15,8 @@ pub returns-then-not-is_present : goal.returns-then-not-is_present
 returns-then-not-is_present c =
     let a = c.args in
     let l = c.requires.wire_entries.absent (sym c.is_present.ensures ∙ c.if-not-is_present.true) in
-    let z : a.end - a.e - 1 ≡ 0 = omega arith in
-    (omega arith, rw (z, stretches-none a.jumpers.now a.i (wire_factor a.wires.now a.i) (wire_layer a.wires.now a.i) a.e) (place_none {A = ℕ} a.at a.out.now))
+    let z : a.entries.end - a.entries.start - 1 ≡ 0 = omega arith in
+    (omega arith, rw (z, stretches-none a.jumpers.now a.i (wire_factor a.wires.now a.i) (wire_layer a.wires.now a.i) a.entries.start) (place_none {A = ℕ} a.at a.out.now))
 
 pub wire_factor-requires : goal.wire_factor-requires
 wire_factor-requires c = let a = c.args in (ltb-true 0 a.i (and_left (ltb 0 a.i) (leb (wire_layer a.wires.now a.i) a.stage) (sym c.is_present.ensures ∙ c.if-not-is_present.false)), c.requires.wire_entries.stored)
@@ -32,7 +32,7 @@ write_stretches-requires c =
     record {
       i_lt_most_nodes = (p.small, p.ordered, p.inside, omega (arith, p.low n, c.wire_layer.ensures), omega (arith, p.high n, c.wire_layer.ensures));
       by_index = p.rise;
-      e_in_bounds = c.requires.e_in_bounds;
+      room = c.requires.room;
     }
 
 pub returns : goal.returns
