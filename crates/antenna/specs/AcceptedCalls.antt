@@ -6,10 +6,9 @@ use Rattle.std.proofs.Common.{sym, ◌∙◌, eqb-true}
 use Rattle.std.proofs.Math.Path.{ap}
 use Rattle.laws.specs.Sums.{no_both}
 use Rattle.net.specs.declared.Answer.{Answer}
-use Rattle.net.specs.declared.Refusal.{Refusal}
 use Rattle.net.specs.Formed.{Formed}
 use Rattle.net.specs.File.{version_of}
-use Rattle.net.specs.Refusal.{answer, met, none, or_else, lent_refusal, nodes_of, wires_of, obstacles_of}
+use Rattle.net.specs.Refusal.{Verdict, answer, met, none, or_else, lent_refusal, nodes_of, wires_of, obstacles_of}
 use Rattle.net.specs.Layout.{record_bytes}
 use Rattle.net.specs.Call.{net_at, call_refusal}
 use Rattle.net.specs.Calls.{call_right}
@@ -28,7 +27,7 @@ pub call_formed : (stage : ℕ) (file : List ℕ) → met (call_refusal stage fi
 call_formed stage file u = formed (version_of file) (nodes_of file) (wires_of file) (obstacles_of file) (call_right stage file u) stage
 
 -- a refusal that is not met has number 0
-unmet-zero : (r : Refusal) → met r ≡ false → r.number ≡ 0
+unmet-zero : (r : Verdict) → met r ≡ false → r.number ≡ 0
 unmet-zero r h = eqb-true r.number 0 (turned (eqb r.number 0) h)
   where
     turned : (t : Bool) → not t ≡ false → t ≡ true

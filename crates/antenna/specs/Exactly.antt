@@ -8,11 +8,10 @@ use Rattle.std.proofs.Math.Seq.{take_at}
 use native.Mathlib.Omega.{arith}
 use Rattle.laws.specs.Sums.{by}
 use Rattle.net.specs.declared.Answer.{Answer}
-use Rattle.net.specs.declared.Refusal.{Refusal}
 use Rattle.net.specs.Layout.{entry_bytes, most_nodes}
 use Rattle.net.specs.Stage.{Stage, stage_of}
 use Rattle.net.specs.Formed.{Formed}
-use Rattle.net.specs.Refusal.{answer, none, refusal, met}
+use Rattle.net.specs.Refusal.{Verdict, answer, none, refusal, met}
 use Rattle.net.specs.Call.{net_at, call_refusal}
 use Rattle.net.specs.First.{unmet-number}
 use Rattle.net.specs.Calls.{call_right}
@@ -106,7 +105,7 @@ module _ {stage limit : ℕ} {file out after : List ℕ} {r : Answer} (p : Repai
       (λ m. unmet-number (call_refusal stage file) (sym (number_of (call_refusal stage file) (p.refused m).0) ∙ zero))
       (λ u. u)
     where
-      number_of : (q : Refusal) → r ≡ answer q 0 → r.number ≡ q.number
+      number_of : (q : Verdict) → r ≡ answer q 0 → r.number ≡ q.number
       number_of q e = unfold answer in ap (λ (a : Answer). a.number) e
 
   done_list : (entry_bytes * r.count ≤ length out) × Smallest (net_at file stage) limit (take (entry_bytes * r.count) after) r.count

@@ -1,8 +1,9 @@
 -- The points of a wire that may be cut, from the search along the wire.
 -- Assumes nothing.
-use Rattle.std.specs.Prelude.{ℕ, ◌-◌, ◌<◌, ◌≡◌, true, false, List, get_or, ltb, eqb}
+use Rattle.std.specs.Prelude.{ℕ, ◌-◌, ◌<◌, ◌≡◌, true, false, List, get_or, ltb, Option, None, Some}
+use Rattle.std.specs.Option.{unwrap_or}
 use Rattle.std.proofs.Common.{sym, ◌∙◌, arith, lt_irrefl}
-use borrow.Author.Tests.{ltb-true, ltb-false, eqb-true, eqb-false, lt-ltb}
+use borrow.Author.Tests.{ltb-true, ltb-false, lt-ltb}
 use Rattle.laws.specs.Sums.{by, no_both}
 use Rattle.net.specs.Layout.{newest}
 use Rattle.net.specs.Net.{node_count, wire_length, barred}
@@ -45,22 +46,24 @@ module _ (ns ws os : List ℕ) (k : ℕ) where
     highest-absent m = record { free = λ h. absurd (lt_irrefl 0 h); most = λ t f. absurd (not-absent m t f) }
 
     module _ (m : is_present ws k i ≡ true) where
-      pub lowest-present : (r : ℕ) → Lowest (barred newest ns ws os i) 1 (wire_length ns ws i) r → LowestFree (stage_of newest ns ws os k) i r
+      pub lowest-present : (r : Option ℕ) → Lowest (barred newest ns ws os i) 1 (wire_length ns ws i) r → LowestFree (stage_of newest ns ws os k) i (unwrap_or r 0)
       unfolding stage_of
-      lowest-present r l =
+      lowest-present None l =
+          record {
+            free = λ h. absurd (lt_irrefl 0 h);
+            some = λ t f. let g = free_of (stage_of newest ns ws os k) i t f in absurd (no_both (l t g.low g.high) g.clear);
+            least = λ t f. omega arith;
+          }
+      lowest-present (Some r) l =
           record {
             free = λ h.
                 of_free (stage_of newest ns ws os k) i r (record {
                   present = present_is i p ∙ m;
-                  low = l.from h;
-                  high = l.within h;
-                  clear = l.free h;
+                  low = l.from;
+                  high = l.within;
+                  clear = l.free;
                 });
-            some = λ t f.
-                let g = free_of (stage_of newest ns ws os k) i t f in
-                by (eqb r 0)
-                (λ y. absurd (no_both (l.none (eqb-true r 0 y) t g.low g.high) g.clear))
-                (λ n. let d = eqb-false r 0 n in omega arith);
+            some = λ t f. omega (arith, l.from);
             least = λ t f.
                 let g = free_of (stage_of newest ns ws os k) i t f in
                 by (ltb t r)
@@ -68,16 +71,25 @@ module _ (ns ws os : List ℕ) (k : ℕ) where
                 (λ n. ltb-false t r n);
           }
 
-      pub highest-present : (r : ℕ) → 0 < wire_length ns ws i → Highest (barred newest ns ws os i) (wire_length ns ws i - 1) r → HighestFree (stage_of newest ns ws os k) i r
+      pub highest-present : (r : Option ℕ) → 0 < wire_length ns ws i → Highest (barred newest ns ws os i) (wire_length ns ws i - 1) r → HighestFree (stage_of newest ns ws os k) i (unwrap_or r 0)
       unfolding stage_of
-      highest-present r pos l =
+      highest-present None pos l =
+          record {
+            free = λ h. absurd (lt_irrefl 0 h);
+            most = λ t f.
+                let g = free_of (stage_of newest ns ws os k) i t f in
+                let low = g.low in
+                let high = g.high in
+                absurd (no_both (l t (omega arith) (omega arith)) g.clear);
+          }
+      highest-present (Some r) pos l =
           record {
             free = λ h.
                 of_free (stage_of newest ns ws os k) i r (record {
                   present = present_is i p ∙ m;
                   low = omega arith;
                   high = omega (arith, l.within);
-                  clear = l.free h;
+                  clear = l.free;
                 });
             most = λ t f.
                 let g = free_of (stage_of newest ns ws os k) i t f in

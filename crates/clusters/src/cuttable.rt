@@ -14,7 +14,7 @@ fn lowest_of(nodes: &[u8], wires: &[u8], obstacles: &[u8], stage: u8, i: usize) 
     ensures { LowestFree (stage_of newest nodes.now wires.now obstacles.now stage) i result }
 {
     if is_present(stage, wires, i) {
-        return lowest_cuttable(nodes, wires, obstacles, i, 1) as u64;
+        return u64::from(lowest_cuttable(nodes, wires, obstacles, i, 1).unwrap_or(0));
     }
     0
 }
@@ -27,7 +27,8 @@ fn highest_of(nodes: &[u8], wires: &[u8], obstacles: &[u8], stage: u8, i: usize)
     if is_present(stage, wires, i) {
         let length = length_of(nodes, wires, i);
         if 0 < length {
-            return highest_cuttable(nodes, wires, obstacles, i, length - 1) as u64;
+            let highest = highest_cuttable(nodes, wires, obstacles, i, length - 1);
+            return u64::from(highest.unwrap_or(0));
         }
     }
     0

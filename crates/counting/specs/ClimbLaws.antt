@@ -1,6 +1,6 @@
 -- Why the highest open position up to a bound is the last within the limit, and the endings of a climb.
 -- Assumes nothing.
-use Rattle.std.specs.Prelude.{ℕ, ◌+◌, ◌-◌, ◌*◌, ◌/◌, ◌≤◌, ◌<◌, ◌≡◌, refl, true, false, ◌&&◌, List, leb, ltb}
+use Rattle.std.specs.Prelude.{ℕ, ◌+◌, ◌-◌, ◌*◌, ◌/◌, ◌≤◌, ◌<◌, ◌≡◌, refl, true, false, ◌&&◌, List, leb, ltb, Option, None, Some, IsSomeAnd}
 use Rattle.std.proofs.Math.Bool.{not}
 use Rattle.std.proofs.Common.{arith, mul-le-mul_left}
 use Rattle.std.proofs.Math.Nat.{mul-div-le, lt-mul-div-succ, lt_of_mul-lt-mul_left}
@@ -49,13 +49,16 @@ pub steps-fewer : (x f k : ℕ) → 0 < f → x < f * k → x / f < k
 steps-fewer x f k p h = lt_of_mul-lt-mul_left f {m = x / f} {n = k} (let b = mul-div-le x f in omega arith)
 
 pub last_within :
-    (ns ws os : List ℕ) (i lo hi weight limit near : ℕ) →
+    (ns ws os : List ℕ) (i lo hi weight limit : ℕ) (found : Option ℕ) →
     Branch ns ws os i lo hi →
     weight ≤ limit →
     limit < weight + stretch_weight ws i lo hi →
-    Highest (barred newest ns ws os i) (lo + (limit - weight) / wire_factor ws i) near →
-    LastWithin ns ws os i lo hi weight limit near
-last_within ns ws os i lo hi weight limit near b w l h =
+    Highest (barred newest ns ws os i) (lo + (limit - weight) / wire_factor ws i) found →
+    IsSomeAnd found (LastWithin ns ws os i lo hi weight limit)
+last_within ns ws os i lo hi weight limit None b w l h =
+    let one = open_low ns ws os i lo b.lo_open in
+    absurd (no_both (h lo (omega arith) (omega arith)) (open_clear ns ws os i lo b.lo_open))
+last_within ns ws os i lo hi weight limit (Some near) b w l h =
     let f = wire_factor ws i in
     let x = limit - weight in
     let pos : 0 < f = omega (arith, b.factor) in
@@ -67,7 +70,7 @@ last_within ns ws os i lo hi weight limit near b w l h =
     let one = open_low ns ws os i lo b.lo_open in
     let end = open_high ns ws os i hi b.hi_open in
     record {
-      is_open = open_if ns ws os i near (omega arith) (omega (arith, h.within)) (h.free (omega arith));
+      is_open = open_if ns ws os i near (omega arith) (omega (arith, h.within)) h.free;
       within = let z = steps-within x f (near - lo) pos (omega (arith, h.within)) in omega arith;
       highest = λ t o y.
           by (ltb near t)

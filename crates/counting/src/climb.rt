@@ -34,7 +34,7 @@ fn last_within(
     ensures { LastWithin nodes.now wires.now obstacles.now i lo hi weight limit result }
 {
     let steps = (limit - weight) / weight_of_step(wires, i);
-    highest_cuttable(nodes, wires, obstacles, i, (lo + steps) as u32) as u64
+    u64::from(highest_cuttable(nodes, wires, obstacles, i, (lo + steps) as u32).unwrap())
 }
 
 // Climbs the wire of branch i, whose cluster is closed.

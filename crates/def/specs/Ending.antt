@@ -3,10 +3,9 @@
 use Rattle.std.specs.Prelude.{ℕ, ◌≡◌, refl, true, List, length}
 use Rattle.std.proofs.Common.{◌∙◌}
 use Rattle.laws.specs.Lists.{over}
-use Rattle.net.specs.declared.Refusal.{Refusal}
 use Rattle.net.specs.declared.Answer.{Answer}
 use Rattle.net.specs.File.{file_of, file_bytes}
-use Rattle.net.specs.Refusal.{none, met, is_version, answer, write_refusal, write_answer, write_buffer}
+use Rattle.net.specs.Refusal.{Verdict, none, met, is_version, answer, write_refusal, write_answer, write_buffer}
 use Rattle.net.specs.Writing.{buffer-done}
 use Rattle.def.specs.Written.{Ended}
 
@@ -16,7 +15,7 @@ unfolding is_version
 first_version = refl
 
 module _ (ns ws os : List ℕ) (stop : ℕ) (out : List ℕ) where
-  pub ended_refused : {r : Refusal} {a : Answer} → r ≡ write_refusal 1 ns ws os (length out) → met r ≡ true → a ≡ answer r 0 → Ended ns ws os stop out a out
+  pub ended_refused : {r : Verdict} {a : Answer} → r ≡ write_refusal 1 ns ws os (length out) → met r ≡ true → a ≡ answer r 0 → Ended ns ws os stop out a out
   unfolding write_answer write_buffer answer
   ended_refused q m e = (e ∙ rw (← q, m), rw (← q, m))
 

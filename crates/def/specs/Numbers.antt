@@ -8,11 +8,10 @@ use Rattle.std.proofs.Math.Dec.{ltb}
 use borrow.Author.Tests.{eq-eqb, ne_eqb, lt-ltb, le-ltb}
 use Rattle.laws.specs.Sums.{by}
 use Rattle.laws.specs.Gathers.{record_of_lem}
-use Rattle.net.specs.declared.Refusal.{Refusal}
 use Rattle.net.specs.Layout.{node_bytes, wire_bytes, obstacle_bytes, most_nodes, most_obstacles, most_layers, most_flags}
 use Rattle.net.specs.Net.{node_count, node_x, node_y, node_flags, wire_parent, wire_layer, wire_factor, obstacle_count, obstacle_x1, obstacle_y1, obstacle_x2, obstacle_y2}
 use Rattle.net.specs.File.{file_bytes}
-use Rattle.net.specs.Refusal.{refused_if, met, or_else, first_of, sections_refusal, node_refusal, wire_refusal, obstacle_refusal, is_version, net_refusal, write_refusal}
+use Rattle.net.specs.Refusal.{Verdict, refused_if, met, or_else, first_of, sections_refusal, node_refusal, wire_refusal, obstacle_refusal, is_version, net_refusal, write_refusal}
 use Rattle.paths.specs.declared.Point.{Point}
 use Rattle.paths.specs.declared.Read.{Read}
 use Rattle.paths.specs.declared.Read.TheVariants.{Wrong, End, Whole}
@@ -34,7 +33,7 @@ abbrev pub def_numbers : List ℕ
 def_numbers = 0 ∷ 4 ∷ 6 ∷ 7 ∷ 10 ∷ 11 ∷ 16 ∷ 17 ∷ 18 ∷ 19 ∷ []
 
 -- what a condition answers stands in it
-record Listed (r : Refusal) : Type 0 where
+record Listed (r : Verdict) : Type 0 where
   number : is_one_of r.number def_numbers ≡ true
 
 -- conditions in order
@@ -42,10 +41,10 @@ listed_if : (t : Bool) (n p : ℕ) → is_one_of n def_numbers ≡ true → List
 listed_if true n p h = record { number = h }
 listed_if false n p h = record { number = refl }
 
-listed-or : {a b : Refusal} → Listed a → (met a ≡ false → Listed b) → Listed (or_else a b)
+listed-or : {a b : Verdict} → Listed a → (met a ≡ false → Listed b) → Listed (or_else a b)
 listed-or {a} p q = by (met a) (λ y. rw y p) (λ z. rw z (q z))
 
-listed-first : (n : ℕ) {f : ℕ → Refusal} → ((i : ℕ) → i < n → Listed (f i)) → Listed (first_of n f)
+listed-first : (n : ℕ) {f : ℕ → Verdict} → ((i : ℕ) → i < n → Listed (f i)) → Listed (first_of n f)
 unfolding first_of
 listed-first zero h = record { number = refl }
 listed-first (suc n) h = listed-or (listed-first n (λ i l. h i (omega arith))) (λ u. h n (omega arith))

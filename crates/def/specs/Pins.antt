@@ -3,8 +3,7 @@
 use Rattle.std.specs.Prelude.{ℕ, zero, suc, ◌+◌, ◌*◌, ◌/◌, not, ◌||◌, cond, List, ltb, length, get_or}
 use Rattle.std.specs.Int.Bits.{bit_or}
 use Rattle.laws.specs.Bytes.{le16}
-use Rattle.net.specs.declared.Refusal.{Refusal}
-use Rattle.net.specs.Refusal.{refused_if, first_of}
+use Rattle.net.specs.Refusal.{Verdict, refused_if, first_of}
 use Rattle.routes.specs.Nodes.{Node, stands_on, known}
 
 -- pins come as x, y (16 bits each), layer, flags (8 each)
@@ -28,11 +27,11 @@ abbrev pub pin_count : List ℕ → ℕ
 pin_count pins = (length pins + 5) / pin_bytes
 
 -- 19: a pin meets no node or is cut short; the place is the pin, from 0
-unfoldable pub pin_refusal : List Node → List ℕ → ℕ → Refusal
+unfoldable pub pin_refusal : List Node → List ℕ → ℕ → Verdict
 pin_refusal nodes pins k =
     refused_if (ltb (length pins) (pin_bytes * k + pin_bytes) || not (known nodes (pin_x pins k) (pin_y pins k) (pin_layer pins k))) 19 k
 
-unfoldable pub pins_refusal : List Node → List ℕ → Refusal
+unfoldable pub pins_refusal : List Node → List ℕ → Verdict
 pins_refusal nodes pins = first_of (pin_count pins) (λ k. pin_refusal nodes pins k)
 
 -- pins on one node join their flags: those of the first k pins

@@ -1,10 +1,9 @@
 -- What the call that reads a net's routing from a DEF text answers, and what the lent buffer then holds. Document 02, routes from DEF.
 -- Assumes nothing.
 use Rattle.std.specs.Prelude.{ℕ, cond, List, ◌++◌, length, drop}
-use Rattle.net.specs.declared.Refusal.{Refusal}
 use Rattle.net.specs.declared.Answer.{Answer}
 use Rattle.net.specs.File.{file_of, file_bytes}
-use Rattle.net.specs.Refusal.{met, or_else, write_refusal}
+use Rattle.net.specs.Refusal.{Verdict, met, or_else, write_refusal}
 use Rattle.routes.specs.Nodes.{route_refusal, route_nodes, route_end}
 use Rattle.def.specs.Pins.{pins_refusal}
 use Rattle.def.specs.Sections.{node_section, wire_section}
@@ -17,7 +16,7 @@ abbrev pub def_wires : List ℕ → ℕ → List ℕ
 def_wires text place = wire_section (route_nodes text place)
 
 -- 17 and 18, then 19, then 4 to 11 on the sections, of version 1, and 16
-unfoldable pub def_refusal : List ℕ → ℕ → List ℕ → List ℕ → ℕ → Refusal
+unfoldable pub def_refusal : List ℕ → ℕ → List ℕ → List ℕ → ℕ → Verdict
 def_refusal text place pins obstacles lent =
     or_else (route_refusal text place)
     (or_else (pins_refusal (route_nodes text place) pins) (write_refusal 1 (def_nodes text place pins) (def_wires text place) obstacles lent))

@@ -11,10 +11,9 @@ use Rattle.std.proofs.Math.Dec.{ltb}
 use borrow.Author.Tests.{ltb-true, ltb-false, lt-ltb, le-ltb, lt-leb, le-leb, eq-eqb, ne_eqb}
 use Rattle.laws.specs.Sum.{χ}
 use Rattle.laws.specs.Sums.{by, and_false}
-use Rattle.net.specs.declared.Refusal.{Refusal}
 use Rattle.net.specs.Net.{node_count, wire_layer, wire_length, barred}
 use Rattle.net.specs.Stage.{stage_of}
-use Rattle.net.specs.Refusal.{none, refusal, refused_if, or_else}
+use Rattle.net.specs.Refusal.{Verdict, none, refusal, refused_if, or_else}
 use Rattle.points.specs.Cuttable.{Checked}
 use Rattle.pieces.specs.Legal.{entry_wire, entry_position, after}
 use Rattle.lists.specs.EntriesChecked.{WiresChecked, present-checked, entry_point}
@@ -25,7 +24,7 @@ unfoldable pub present_length : List ℕ → List ℕ → ℕ → ℕ → ℕ
 present_length ns ws k i = χ (ltb 0 i && (ltb i (node_count ns) && leb (wire_layer ws i) k)) (wire_length ns ws i)
 
 -- position t of wire i, of a length: 13 position outside; 14 barred
-unfoldable pub position_refusal : ℕ → List ℕ → List ℕ → List ℕ → ℕ → ℕ → ℕ → ℕ → Refusal
+unfoldable pub position_refusal : ℕ → List ℕ → List ℕ → List ℕ → ℕ → ℕ → ℕ → ℕ → Verdict
 position_refusal v ns ws os i len t place = or_else (refused_if (not (leb 1 t && ltb t len)) 13 place) (refused_if (barred v ns ws os i t) 14 place)
 
 -- an entry after the one before lies on that one's wire, from the position behind it on, or on a later wire; the first entry may lie anywhere
@@ -171,7 +170,7 @@ module _ (ns ws : List ℕ) (k : ℕ) (list : List ℕ) (e : ℕ) where
       → 0 < len → Checked ns ws i × (len ≡ wire_length ns ws i)
   on_wire_checked checked {wire = wire} w on = rw (on, ← w.on, w.long) (length-checked ns ws checked wire k)
 
-  pub on_wire_refusal : (v : ℕ) (os : List ℕ) {r : Refusal} {i t wire len : ℕ} → OnWire ns ws k list e wire len → i ≡ entry_wire list e → t ≡ entry_position list e
+  pub on_wire_refusal : (v : ℕ) (os : List ℕ) {r : Verdict} {i t wire len : ℕ} → OnWire ns ws k list e wire len → i ≡ entry_wire list e → t ≡ entry_position list e
       → r ≡ position_refusal v ns ws os i len t e → r ≡ entry_refusal (stage_of v ns ws os k) list e
   on_wire_refusal v os w on at q =
       (rw (w.long, w.on, on, at) at q)

@@ -8,10 +8,9 @@ use Rattle.std.proofs.Math.Dec.{leb, ltb}
 use borrow.Author.Tests.{ltb-true, ltb-false, lt-ltb, le-ltb, lt-leb, le-leb, eq-eqb, ne_eqb}
 use Rattle.laws.specs.Sums.{by, and_left, and_right}
 use Rattle.net.specs.Layout.{wire_bytes, entry_bytes}
-use Rattle.net.specs.declared.Refusal.{Refusal}
 use Rattle.net.specs.Net.{node_count, wire_layer, wire_length, barred}
 use Rattle.net.specs.Stage.{Stage, stage_of}
-use Rattle.net.specs.Refusal.{none, refusal, met, refused_if, first_of, net_refusal}
+use Rattle.net.specs.Refusal.{Verdict, none, refusal, met, refused_if, first_of, net_refusal}
 use Rattle.net.specs.First.{none_if, none_or, first-none, first-unmet, unmet-number}
 use Rattle.points.specs.Cuttable.{Checked}
 use Rattle.net.specs.Accepted.{net-right}
@@ -160,6 +159,6 @@ module _ (s : Stage) (list : List ℕ) where
       (unmet-number (list_refusal s list) e))
 
   module _ (a : length list % entry_bytes ≡ 0) where
-    pub list_entries : {r : Refusal} → r ≡ first_of (entry_count list) (λ e. entry_refusal s list e) → r ≡ list_refusal s list
+    pub list_entries : {r : Verdict} → r ≡ first_of (entry_count list) (λ e. entry_refusal s list e) → r ≡ list_refusal s list
     unfolding list_refusal
     list_entries h = rw (eq-eqb _ _ a) h

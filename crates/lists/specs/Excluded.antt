@@ -2,24 +2,23 @@
 -- Assumes nothing.
 use Rattle.std.specs.Prelude.{ℕ, ◌≡◌, refl, List, [], ◌∷◌}
 use Rattle.laws.specs.Sum.{any}
-use Rattle.net.specs.declared.Refusal.{Refusal}
 use Rattle.net.specs.Net.{wire_length, point_x, point_y, holds, barred}
 use Rattle.net.specs.Stage.{stage_of}
-use Rattle.net.specs.Refusal.{none, refusal, first_of}
+use Rattle.net.specs.Refusal.{Verdict, none, refusal, first_of}
 use Rattle.pieces.specs.Legal.{after}
 use Rattle.pieces.specs.JumperList.{point_refusal, entry_refusal, list_refusal}
 
 -- the refusal of a list at a stage; the net has one wire of 13 steps, from (13,0) to (0,0), on a layer, and obstacles of a version
-abbrev pub refused_on : ℕ → ℕ → List ℕ → ℕ → List ℕ → Refusal
+abbrev pub refused_on : ℕ → ℕ → List ℕ → ℕ → List ℕ → Verdict
 refused_on layer version obstacles stage list =
     list_refusal (stage_of version (0 ∷ 0 ∷ 0 ∷ 0 ∷ 1 ∷ 13 ∷ 0 ∷ 0 ∷ 0 ∷ 1 ∷ []) (0 ∷ layer ∷ 1 ∷ []) obstacles stage) list
 
 -- the wire on layer 2, and an obstacle of version 1 at (7,0), which is position 6
-abbrev pub refused : ℕ → List ℕ → Refusal
+abbrev pub refused : ℕ → List ℕ → Verdict
 refused stage list = refused_on 2 1 (7 ∷ 0 ∷ 0 ∷ 0 ∷ 7 ∷ 0 ∷ 0 ∷ 0 ∷ []) stage list
 
 -- the same with that obstacle of version 2, of a layer
-abbrev pub refused_under : ℕ → ℕ → List ℕ → Refusal
+abbrev pub refused_under : ℕ → ℕ → List ℕ → Verdict
 refused_under layer stage list = refused_on 2 2 (7 ∷ 0 ∷ 0 ∷ 0 ∷ 7 ∷ 0 ∷ 0 ∷ 0 ∷ layer ∷ []) stage list
 
 pub record SmallLists : Type 0 where

@@ -1,99 +1,69 @@
 // Refusals 12 to 14 on a whole list, with the length of a wire computed once for its entries in a row.
 ghost use Rattle.std.specs.Prelude.{◌≡◌, ◌<◌};
 ghost use Rattle.net.specs.Net.{wire_length};
-ghost use Rattle.net.specs.Refusal.{none, net_refusal};
-ghost use Rattle.net.specs.Stage.{stage_of};
+ghost use Rattle.net.specs.Numbers.{checked};
+ghost use Rattle.net.specs.NetStage.{stage_of_net};
 ghost use Rattle.points.specs.Cuttable.{Checked};
 ghost use Rattle.pieces.specs.JumperList.{list_refusal};
 ghost use Rattle.lists.specs.EntriesByWire.{present_length, position_refusal};
-ghost use Rattle.lists.specs.EntriesChecked.{WiresChecked};
 
 use crate::entries::{entry_count, entry_position, entry_wire};
-use net::Refusal;
-use net::answers::{none, refused};
+use net::Net;
 use net::fields::{is_present, node_count};
 use net::layout::ENTRY_BYTES;
+use net::refusal::Refusal;
 use points::{is_barred, length_of};
 
 // The length of wire i, or 0 where there is no such wire or the stage does not have it.
-fn present_length(stage: u8, nodes: &[u8], wires: &[u8], i: usize) -> u32
-    requires { WiresChecked nodes.now wires.now }
-    ensures { result ≡ present_length nodes.now wires.now stage i }
+fn present_length(net: Net, stage: u8, i: usize) -> u32
+    ensures { result ≡ present_length net.entry.nodes.now net.entry.wires.now stage i }
 {
-    if node_count(nodes) <= i {
-        return 0;
+    if i < node_count(net.nodes) && is_present(stage, net.wires, i) {
+        length_of(net.nodes, net.wires, i)
+    } else {
+        0
     }
-    if !is_present(stage, wires, i) {
-        return 0;
-    }
-    length_of(nodes, wires, i)
 }
 
 // Position t of wire i; `length` is that of the wire, or 0 where the stage does not have it: 13, 14.
-fn position_refusal(
-    version: u16,
-    nodes: &[u8],
-    wires: &[u8],
-    obstacles: &[u8],
-    i: usize,
-    length: u32,
-    t: u32,
-    place: u64,
-) -> Refusal
-    requires { 0 < length → Checked nodes.now wires.now i × (length ≡ wire_length nodes.now wires.now i) }
-    ensures { result ≡ position_refusal version nodes.now wires.now obstacles.now i length t place }
+fn position_refusal(net: Net, i: usize, length: u32, t: u32, place: u64) -> Result<(), Refusal>
+    requires { 0 < length → Checked net.nodes.now net.wires.now i × (length ≡ wire_length net.nodes.now net.wires.now i) }
+    ensures { checked result ≡ position_refusal net.entry.version net.entry.nodes.now net.entry.wires.now net.entry.obstacles.now i length t place }
 {
-    if t == 0 {
-        return refused(13, place);
+    if t == 0 || length <= t {
+        return Err(Refusal::JumperOutside(place));
     }
-    if length <= t {
-        return refused(13, place);
+    if is_barred(net.version, net.nodes, net.wires, net.obstacles, i, t) {
+        return Err(Refusal::JumperBarred(place));
     }
-    if is_barred(version, nodes, wires, obstacles, i, t) {
-        return refused(14, place);
-    }
-    none()
+    Ok(())
 }
 
 // 12 on the length of a list, then each entry in order: 12, then 13 and 14 on its point. Of the entry before, `wire` is its wire, `from` the position behind it
 // and `length` the length of its wire, which is computed once for entries in a row on one wire.
-pub fn list_refusal(
-    version: u16,
-    stage: u8,
-    nodes: &[u8],
-    wires: &[u8],
-    obstacles: &[u8],
-    list: &[u8],
-) -> Refusal
-    requires { net_refusal version nodes.now wires.now obstacles.now ≡ none }
-    ensures { result ≡ list_refusal (stage_of version nodes.now wires.now obstacles.now stage) list.now }
+pub fn list_refusal(net: Net, stage: u8, list: &[u8]) -> Result<(), Refusal>
+    ensures { checked result ≡ list_refusal (stage_of_net net.entry stage) list.now }
 {
     if list.len() % ENTRY_BYTES != 0 {
-        return refused(12, 0);
+        return Err(Refusal::ListOrder(0));
     }
-    let count = entry_count(list);
     let mut wire = 0;
     let mut from = 0;
     let mut length = 0;
-    let mut e = 0;
-    while e < count {
+    for e in 0..entry_count(list) {
         let i = entry_wire(list, e);
         let t = entry_position(list, e);
         if i != wire {
             if i < wire {
-                return refused(12, e as u64);
+                return Err(Refusal::ListOrder(e as u64));
             }
             wire = i;
-            length = present_length(stage, nodes, wires, i);
+            length = present_length(net, stage, i);
         } else if t < from {
-            return refused(12, e as u64);
+            return Err(Refusal::ListOrder(e as u64));
         }
-        let r = position_refusal(version, nodes, wires, obstacles, i, length, t, e as u64);
-        if r.number != 0 {
-            return r;
-        }
+        position_refusal(net, i, length, t, e as u64)?;
         from = t + 1;
-        e += 1;
     }
-    none()
+    Ok(())
 }

@@ -10,10 +10,7 @@ fn is_of_wire(jumpers: &[u8], i: usize, e: usize) -> bool
     ensures { (result ≡ true → (e < entry_count jumpers.now) × (entry_wire jumpers.now e ≡ i))
         × (result ≡ false → e < entry_count jumpers.now → entry_wire jumpers.now e ≡ i → ⊥) }
 {
-    if entry_count(jumpers) <= e {
-        return false;
-    }
-    entry_wire(jumpers, e) == i
+    e < entry_count(jumpers) && entry_wire(jumpers, e) == i
 }
 
 // A step from entry e, which is one of wire i, that leads to none of wire i, found by doubling: half of it leads to one.

@@ -16,12 +16,12 @@ pub fn entry_wire(list: &[u8], e: usize) -> usize
     requires { e < entry_count list.now }
     ensures { result ≡ entry_wire list.now e }
 {
-    list[ENTRY_BYTES * e] as usize
+    usize::from(list[ENTRY_BYTES * e])
 }
 
 pub fn entry_position(list: &[u8], e: usize) -> u32
     requires { e < entry_count list.now }
     ensures { result ≡ entry_position list.now e }
 {
-    u16_at(list, ENTRY_BYTES * e + 1) as u32
+    u32::from(u16_at(list, ENTRY_BYTES * e + 1))
 }

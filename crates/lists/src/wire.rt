@@ -13,12 +13,10 @@ pub fn entries_end(jumpers: &[u8], i: usize, e: usize) -> usize
         × (result < entry_count jumpers.now → entry_wire jumpers.now result ≡ i → ⊥) }
 {
     let count = entry_count(jumpers);
-    let mut end = e;
-    while end < count {
+    for end in e..count {
         if entry_wire(jumpers, end) != i {
             return end;
         }
-        end += 1;
     }
-    end
+    count
 }

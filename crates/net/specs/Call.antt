@@ -1,15 +1,14 @@
 -- What report and repair try first, and the net at a stage that they then judge.
 -- Assumes nothing.
 use Rattle.std.specs.Prelude.{ℕ, List}
-use Rattle.net.specs.declared.Refusal.{Refusal}
 use Rattle.net.specs.File.{version_of}
 use Rattle.net.specs.Stage.{Stage, stage_of}
-use Rattle.net.specs.Refusal.{or_else, stage_refusal, read_refusal, nodes_of, wires_of, obstacles_of}
+use Rattle.net.specs.Refusal.{Verdict, or_else, stage_refusal, read_refusal, nodes_of, wires_of, obstacles_of}
 
 -- the net at a stage of a file
 abbrev pub net_at : List ℕ → ℕ → Stage
 net_at file stage = stage_of (version_of file) (nodes_of file) (wires_of file) (obstacles_of file) stage
 
 -- 1, then 2 to 11 and 20
-abbrev pub call_refusal : ℕ → List ℕ → Refusal
+abbrev pub call_refusal : ℕ → List ℕ → Verdict
 call_refusal stage file = or_else (stage_refusal stage) (read_refusal file)

@@ -5,8 +5,7 @@ use Rattle.std.specs.Prelude.{◌≡◌, Bool, true, false, ◌&&◌, cond, ◌�
 use Rattle.std.proofs.Common.{◌∙◌, sym, inl, inr, eq-or-lt_of_le, add-one, arith, ne_eqb}
 use Rattle.std.proofs.Math.Path.{refl}
 use Rattle.std.proofs.Math.Logic.{⊎_elim}
-use Rattle.net.specs.declared.Refusal.{Refusal}
-use Rattle.net.specs.Refusal.{none, refused_if, met, or_else, first_of}
+use Rattle.net.specs.Refusal.{Verdict, none, refused_if, met, or_else, first_of}
 
 -- two tests that do not both hold
 pub and_no : (a b : Bool) → (a && b) ≡ false → (a ≡ false) ⊎ (b ≡ false)
@@ -22,14 +21,14 @@ pub none_if : (t : Bool) (n p : ℕ) → eqb n 0 ≡ false → met (refused_if t
 none_if t n p d e = rw (unmet_if t n p d e)
 
 -- a refusal is met if its number is not 0
-pub met-number : (r : Refusal) → (r.number ≡ 0 → ⊥) → met r ≡ true
+pub met-number : (r : Verdict) → (r.number ≡ 0 → ⊥) → met r ≡ true
 met-number r h = rw (ne_eqb _ _ h)
 
-pub unmet-number : (r : Refusal) → r.number ≡ 0 → met r ≡ false
+pub unmet-number : (r : Verdict) → r.number ≡ 0 → met r ≡ false
 unmet-number r h = rw h
 
 -- the first of two
-module _ (a b : Refusal) where
+module _ (a b : Verdict) where
   pub first-met : met a ≡ true → or_else a b ≡ a
   first-met h = rw h
 
@@ -53,21 +52,21 @@ module _ (a b : Refusal) where
   pub none_or : (met b ≡ false → none ≡ b) → met (or_else a b) ≡ false → none ≡ or_else a b
   none_or h e = h (unmet_r e) ∙ sym (second-first (unmet_l e))
 
-  pub first_of_lem : {r : Refusal} → r ≡ a → met r ≡ true → r ≡ or_else a b
+  pub first_of_lem : {r : Verdict} → r ≡ a → met r ≡ true → r ≡ or_else a b
   first_of_lem q m = q ∙ sym (first-met (rw (← q) m))
 
-  pub rest_of : {r s : Refusal} → r ≡ a → met r ≡ false → s ≡ b → s ≡ or_else a b
+  pub rest_of : {r s : Verdict} → r ≡ a → met r ≡ false → s ≡ b → s ≡ or_else a b
   rest_of q m e = e ∙ sym (second-first (rw (← q) m))
 
-  or_assoc' : (c : Refusal) (t : Bool) → met a ≡ t → or_else (cond t a b) c ≡ cond t a (or_else b c)
+  or_assoc' : (c : Verdict) (t : Bool) → met a ≡ t → or_else (cond t a b) c ≡ cond t a (or_else b c)
   or_assoc' c true h = rw h
   or_assoc' c false h = refl
 
-  pub or_assoc : (c : Refusal) → or_else (or_else a b) c ≡ or_else a (or_else b c)
+  pub or_assoc : (c : Verdict) → or_else (or_else a b) c ≡ or_else a (or_else b c)
   or_assoc c = or_assoc' c (met a) refl
 
 -- the first of the records in order
-module _ (f : ℕ → Refusal) where
+module _ (f : ℕ → Verdict) where
   pub first-unmet : (n : ℕ) → met (first_of n f) ≡ false → (i : ℕ) → i < n → met (f i) ≡ false
   unfolding first_of
   first-unmet zero e i h = absurd (omega arith)
@@ -92,7 +91,7 @@ module _ (f : ℕ → Refusal) where
   first_more i e h = rw (add-one i, ← e) h
 
   -- the first refusal met
-  pub first-here : (n i : ℕ) {r : Refusal} → i < n → none ≡ first_of i f → r ≡ f i → met r ≡ true → r ≡ first_of n f
+  pub first-here : (n i : ℕ) {r : Verdict} → i < n → none ≡ first_of i f → r ≡ f i → met r ≡ true → r ≡ first_of n f
   first-here n i h e q m = rw q (sym (first-at n i h (rw (← e)) (rw (← q) m)))
 
   pub first-all : (n i : ℕ) → i ≡ n → none ≡ first_of i f → none ≡ first_of n f
@@ -104,7 +103,7 @@ module _ (f : ℕ → Refusal) where
   first-none (suc n) h = rw (← first-none n (λ i l. h i (omega arith))) (h n (omega arith))
 
 -- the same for records that are numbered from 1
-module _ (g : ℕ → Refusal) where
+module _ (g : ℕ → Verdict) where
   back : (i : ℕ) → 0 < i → i - 1 + 1 ≡ i
   back i h = omega arith
 
@@ -114,6 +113,6 @@ module _ (g : ℕ → Refusal) where
   pub first_more_1 : (i : ℕ) → 0 < i → none ≡ first_of (i - 1) (λ j. g (j + 1)) → none ≡ g i → none ≡ first_of (i + 1 - 1) (λ j. g (j + 1))
   first_more_1 i h e q = rw (forth i h) (first_more (λ j. g (j + 1)) (i - 1) e (rw (back i h) q))
 
-  pub first_here_1 : (n i : ℕ) {r : Refusal} → 0 < i → i < n → none ≡ first_of (i - 1) (λ j. g (j + 1)) → r ≡ g i → met r ≡ true
+  pub first_here_1 : (n i : ℕ) {r : Verdict} → 0 < i → i < n → none ≡ first_of (i - 1) (λ j. g (j + 1)) → r ≡ g i → met r ≡ true
       → r ≡ first_of (n - 1) (λ j. g (j + 1))
   first_here_1 n i h l e q m = first-here (λ j. g (j + 1)) (n - 1) (i - 1) (omega arith) e (rw (back i h) q) m

@@ -4,10 +4,14 @@ pub mod Net
 pub mod Stage
 pub mod Formed
 pub mod Refusal
+pub mod Numbers
 pub mod Call
+pub mod NetStage
+pub mod Sections
 pub mod File
 pub mod Versions
 pub mod First
+pub mod Answered
 pub mod Reading
 pub mod Writing
 pub mod Accepted

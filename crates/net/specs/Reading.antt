@@ -5,11 +5,10 @@ use Rattle.std.proofs.Common.{◌∙◌, arith}
 use Rattle.std.proofs.Math.Bool.{false, not}
 use Rattle.std.proofs.Math.Dec.{ltb, eqb}
 use borrow.Author.Tests.{lt-ltb, le-ltb, eq-eqb, ne_eqb}
-use Rattle.net.specs.declared.Refusal.{Refusal}
 use Rattle.net.specs.Layout.{head_bytes, node_bytes, wire_bytes, obstacle_bytes, most_nodes, most_obstacles, most_layers, most_flags}
 use Rattle.net.specs.Net.{node_count, node_x, node_y, node_flags, wire_parent, wire_layer, wire_factor, obstacle_count, obstacle_x1, obstacle_y1, obstacle_x2, obstacle_y2, obstacle_layer}
 use Rattle.net.specs.File.{version_of, pair_count, offset, extent, pairs_right, stretch}
-use Rattle.net.specs.Refusal.{none, refusal, answer, read_answer, nodes_of, met, refused_if, or_else, first_of, is_version, head_refusal, pairs_refusal, section_of, sections_refusal, node_refusal, wire_refusal, obstacle_refusal, net_refusal, read_refusal}
+use Rattle.net.specs.Refusal.{Verdict, none, refusal, answer, read_answer, nodes_of, met, refused_if, or_else, first_of, is_version, head_refusal, pairs_refusal, section_of, sections_refusal, node_refusal, wire_refusal, obstacle_refusal, net_refusal, read_refusal}
 use Rattle.net.specs.First.{none_if, none_or, first_of_lem, rest_of, or_assoc, first_more_1, first_here_1}
 
 -- head of file
@@ -149,7 +148,7 @@ module _ (ns ws : List ℕ) (i : ℕ) (h : 0 < i) (e : none ≡ first_of (i - 1)
   pub wires-more : none ≡ wire_refusal ns ws i → none ≡ first_of (i + 1 - 1) (λ j. wire_refusal ns ws (j + 1))
   wires-more q = first_more_1 (λ j. wire_refusal ns ws j) i h e q
 
-  pub wires-here : (n : ℕ) (r : Refusal) → i < n → r ≡ wire_refusal ns ws i → met r ≡ true
+  pub wires-here : (n : ℕ) (r : Verdict) → i < n → r ≡ wire_refusal ns ws i → met r ≡ true
       → r ≡ first_of (n - 1) (λ j. wire_refusal ns ws (j + 1))
   wires-here n r l q m = first_here_1 (λ j. wire_refusal ns ws j) n i h l e q m
 
@@ -200,11 +199,11 @@ module _ (f : List ℕ) where
   unfolding section_of
   section_stretch k e = rw e
 
-  pub read_head : (r : Refusal) → r ≡ or_else (head_refusal f) (pairs_refusal f) → met r ≡ true → r ≡ read_refusal f
+  pub read_head : (r : Verdict) → r ≡ or_else (head_refusal f) (pairs_refusal f) → met r ≡ true → r ≡ read_refusal f
   unfolding read_refusal
   read_head r q m = first_of_lem _ _ q m ∙ or_assoc (head_refusal f) (pairs_refusal f) _
 
-  pub read_net : (r s : Refusal) → s ≡ or_else (head_refusal f) (pairs_refusal f) → met s ≡ false
+  pub read_net : (r s : Verdict) → s ≡ or_else (head_refusal f) (pairs_refusal f) → met s ≡ false
       → r ≡ net_refusal (version_of f) (stretch f 0) (stretch f 1) (stretch f 2) → r ≡ read_refusal f
   unfolding read_refusal
   read_net r s p m q =
@@ -213,6 +212,6 @@ module _ (f : List ℕ) where
       (rw (← section_stretch 0 e, ← section_stretch 1 e, ← section_stretch 2 e) q)
       ∙ or_assoc (head_refusal f) (pairs_refusal f) _
 
-  pub read_answer_lem : (r : Refusal) (l : List ℕ) (count : ℕ) → r ≡ read_refusal f → l ≡ nodes_of f → count ≡ node_count l → answer r count ≡ read_answer f
+  pub read_answer_lem : (r : Verdict) (l : List ℕ) (count : ℕ) → r ≡ read_refusal f → l ≡ nodes_of f → count ≡ node_count l → answer r count ≡ read_answer f
   unfolding read_answer
   read_answer_lem r l count p q n = rw (n, q, p)

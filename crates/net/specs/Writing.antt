@@ -5,10 +5,9 @@ use Rattle.std.proofs.Common.{length-append}
 use borrow.Author.Tests.{lt-ltb, le-ltb}
 use Rattle.laws.specs.Bytes.{bytes32}
 use Rattle.laws.specs.Lists.{over}
-use Rattle.net.specs.declared.Refusal.{Refusal}
 use Rattle.net.specs.Layout.{head_bytes}
 use Rattle.net.specs.File.{head_of, file_of, file_bytes}
-use Rattle.net.specs.Refusal.{none, refusal, met, is_version, net_refusal, answer, write_refusal, write_answer, write_buffer}
+use Rattle.net.specs.Refusal.{Verdict, none, refusal, met, is_version, net_refusal, answer, write_refusal, write_answer, write_buffer}
 use Rattle.net.specs.First.{first_of_lem, rest_of}
 
 -- the three pairs of a head, behind version and pair count
@@ -38,22 +37,22 @@ module _ (v : ℕ) (ns ws os : List ℕ) where
     unfolding write_refusal
     write_version h = rw h
 
-    pub write_net : (r : Refusal) → is_version v ≡ true → r ≡ net_refusal v ns ws os → met r ≡ true → r ≡ write_refusal v ns ws os lent
+    pub write_net : (r : Verdict) → is_version v ≡ true → r ≡ net_refusal v ns ws os → met r ≡ true → r ≡ write_refusal v ns ws os lent
     unfolding write_refusal
     write_net r i q m = rw i (first_of_lem _ _ q m)
 
-    pub write_lent : (r : Refusal) (needed : ℕ) → is_version v ≡ true → r ≡ net_refusal v ns ws os → met r ≡ false → needed ≡ file_bytes ns ws os → lent < needed
+    pub write_lent : (r : Verdict) (needed : ℕ) → is_version v ≡ true → r ≡ net_refusal v ns ws os → met r ≡ false → needed ≡ file_bytes ns ws os → lent < needed
         → refusal 16 needed ≡ write_refusal v ns ws os lent
     unfolding write_refusal
     write_lent r needed i q m e h = rw i (rest_of _ _ q m (rw (← e, lt-ltb lent needed h)))
 
-    pub write_done : (r : Refusal) (needed : ℕ) → is_version v ≡ true → r ≡ net_refusal v ns ws os → met r ≡ false → needed ≡ file_bytes ns ws os → needed ≤ lent
+    pub write_done : (r : Verdict) (needed : ℕ) → is_version v ≡ true → r ≡ net_refusal v ns ws os → met r ≡ false → needed ≡ file_bytes ns ws os → needed ≤ lent
         → none ≡ write_refusal v ns ws os lent
     unfolding write_refusal
     write_done r needed i q m e h = rw i (rest_of _ _ q m (rw (← e, le-ltb lent needed h)))
 
     -- what is answered then
-    pub answer-refused : (r : Refusal) → r ≡ write_refusal v ns ws os lent → met r ≡ true → answer r 0 ≡ write_answer v ns ws os lent
+    pub answer-refused : (r : Verdict) → r ≡ write_refusal v ns ws os lent → met r ≡ true → answer r 0 ≡ write_answer v ns ws os lent
     unfolding write_answer answer
     answer-refused r q m = rw (← q, m)
 
@@ -63,7 +62,7 @@ module _ (v : ℕ) (ns ws os : List ℕ) where
 
   -- what the lent buffer then holds
   module _ (out : List ℕ) where
-    pub buffer-refused : (r : Refusal) → r ≡ write_refusal v ns ws os (length out) → met r ≡ true → out ≡ write_buffer v ns ws os out
+    pub buffer-refused : (r : Verdict) → r ≡ write_refusal v ns ws os (length out) → met r ≡ true → out ≡ write_buffer v ns ws os out
     unfolding write_buffer
     buffer-refused r q m = rw (← q, m)
 

@@ -2,11 +2,14 @@
 // Definitions: specs/.
 #![tactic(auto)]
 
-pub mod answers;
+ghost use Rattle.std.specs.Prelude.{◌≡◌};
+ghost use Rattle.net.specs.Refusal.{none, net_refusal};
+
 pub mod call;
 pub mod fields;
 pub mod layout;
 pub mod read;
+pub mod refusal;
 pub mod sections;
 pub mod write;
 
@@ -19,9 +22,12 @@ pub struct Answer {
     pub count: u64,
 }
 
-// The first refusal met: its number and place, or number 0 where none is.
+// An accepted net: its version and sections, on which none of 4 to 11 and 20 is met.
 #[derive(Clone, Copy)]
-pub struct Refusal {
-    pub number: u32,
-    pub place: u64,
+pub struct Net<'a> {
+    pub version: u16,
+    pub nodes: &'a [u8],
+    pub wires: &'a [u8],
+    pub obstacles: &'a [u8],
+    ghost accepted: { net_refusal version nodes.now wires.now obstacles.now ≡ none },
 }

@@ -2,15 +2,16 @@
 ghost use Rattle.std.specs.Prelude.{◌≡◌, false, ◌+◌, ◌<◌, ◌≤◌, length};
 ghost use Rattle.net.specs.Layout.{head_bytes};
 ghost use Rattle.net.specs.File.{version_of, offset, extent, stretch};
-ghost use Rattle.net.specs.Refusal.{met, or_else, is_version, head_refusal, pairs_refusal, section_of, nodes_of, wires_of, obstacles_of};
+ghost use Rattle.net.specs.Numbers.{checked};
+ghost use Rattle.net.specs.Sections.{index_of};
+ghost use Rattle.net.specs.Refusal.{met, or_else, is_version, head_refusal, pairs_refusal, section_of};
 
-use crate::Refusal;
-use crate::answers::{none, refused};
 use crate::fields::{u16_at, u32_at};
 use crate::layout::{
     FIRST_VERSION, HEAD_BYTES, LENGTH_AT, NEWEST_VERSION, PAIR_BYTES, PAIR_COUNT, PAIR_COUNT_AT,
     PAIRS_AT, VERSION_AT,
 };
+use crate::refusal::Refusal;
 
 // The version of a file that has a head.
 pub fn version(file: &[u8]) -> u16
@@ -24,122 +25,107 @@ pub fn version(file: &[u8]) -> u16
 pub fn is_version(version: u32) -> bool
     ensures { result ≡ is_version version }
 {
-    if version == FIRST_VERSION as u32 {
-        return true;
+    version == u32::from(FIRST_VERSION) || version == u32::from(NEWEST_VERSION)
+}
+
+// The sections of a file, in its order.
+#[derive(Clone, Copy, Debug, PartialEq, Eq)]
+pub enum Section {
+    Nodes,
+    Wires,
+    Obstacles,
+}
+
+impl Section {
+    fn index(self) -> usize
+        ensures { result ≡ index_of self }
+    {
+        match self {
+            Section::Nodes => 0,
+            Section::Wires => 1,
+            Section::Obstacles => 2,
+        }
     }
-    version == NEWEST_VERSION as u32
 }
 
-// The nodes of a file: that part of it, or an empty part after 2 or 3.
-pub fn nodes(file: &[u8]) -> &[u8]
-    ensures { result.now ≡ nodes_of file.now }
+// A section of a file: a part of it, or an empty part after 2 or 3.
+pub fn section_or_empty(file: &[u8], of: Section) -> &[u8]
+    ensures { result.now ≡ section_of file.now (index_of of) }
 {
-    section(file, 0)
-}
-
-// The wires of a file.
-pub fn wires(file: &[u8]) -> &[u8]
-    ensures { result.now ≡ wires_of file.now }
-{
-    section(file, 1)
-}
-
-// The obstacles of a file.
-pub fn obstacles(file: &[u8]) -> &[u8]
-    ensures { result.now ≡ obstacles_of file.now }
-{
-    section(file, 2)
-}
-
-// Section k: a part of the file, empty after 2 or 3.
-fn section(file: &[u8], k: usize) -> &[u8]
-    requires { k < 3 }
-    ensures { result.now ≡ section_of file.now k }
-{
-    let r = head_and_pairs_refusal(file);
-    if r.number != 0 {
-        return &file[0..0];
+    match head_and_pairs_refusal(file) {
+        Ok(()) => stretch(file, of),
+        Err(_) => &file[0..0],
     }
-    stretch(file, k)
 }
 
-// The part of the file that section k's pair names, once head and pairs are checked.
-pub fn stretch(file: &[u8], k: usize) -> &[u8]
-    requires { (k < 3) × (met (or_else (head_refusal file.now) (pairs_refusal file.now)) ≡ false) }
-    ensures { result.now ≡ stretch file.now k }
+// The part of the file that a section's pair names, once head and pairs are checked.
+pub fn stretch(file: &[u8], of: Section) -> &[u8]
+    requires { met (or_else (head_refusal file.now) (pairs_refusal file.now)) ≡ false }
+    ensures { result.now ≡ stretch file.now (index_of of) }
 {
-    let start = offset(file, k);
-    let end = end_of(file, k);
+    let start = offset(file, of);
+    let end = end_of(file, of);
     &file[start..end]
 }
 
 // Head of file, then pairs: 2, 3.
-pub fn head_and_pairs_refusal(file: &[u8]) -> Refusal
-    ensures { result ≡ or_else (head_refusal file.now) (pairs_refusal file.now) }
+pub fn head_and_pairs_refusal(file: &[u8]) -> Result<(), Refusal>
+    ensures { checked result ≡ or_else (head_refusal file.now) (pairs_refusal file.now) }
 {
-    let head = head_refusal(file);
-    if head.number != 0 {
-        return head;
-    }
+    head_refusal(file)?;
     pairs_refusal(file)
 }
 
 // Head of file: 2.
-fn head_refusal(file: &[u8]) -> Refusal
-    ensures { result ≡ head_refusal file.now }
+fn head_refusal(file: &[u8]) -> Result<(), Refusal>
+    ensures { checked result ≡ head_refusal file.now }
 {
-    if file.len() < HEAD_BYTES {
-        return refused(2, 0);
+    if file.len() < HEAD_BYTES
+        || !is_version(u32::from(version(file)))
+        || u16_at(file, PAIR_COUNT_AT) != PAIR_COUNT
+    {
+        return Err(Refusal::Head);
     }
-    if !is_version(version(file) as u32) {
-        return refused(2, 0);
-    }
-    if u16_at(file, PAIR_COUNT_AT) != PAIR_COUNT {
-        return refused(2, 0);
-    }
-    none()
+    Ok(())
 }
 
-// The offset of section k's pair.
-fn offset(file: &[u8], k: usize) -> usize
-    requires { (k < 3) × (head_bytes ≤ length file.now) }
-    ensures { (result ≡ offset file.now k) × (result < 4294967296) }
+// The offset of a section's pair.
+fn offset(file: &[u8], of: Section) -> usize
+    requires { head_bytes ≤ length file.now }
+    ensures { (result ≡ offset file.now (index_of of)) × (result < 4294967296) }
 {
+    let k = of.index();
     u32_at(file, PAIRS_AT + PAIR_BYTES * k) as usize
 }
 
-// The length of section k's pair.
-fn extent(file: &[u8], k: usize) -> usize
-    requires { (k < 3) × (head_bytes ≤ length file.now) }
-    ensures { (result ≡ extent file.now k) × (result < 4294967296) }
+// The length of a section's pair.
+fn extent(file: &[u8], of: Section) -> usize
+    requires { head_bytes ≤ length file.now }
+    ensures { (result ≡ extent file.now (index_of of)) × (result < 4294967296) }
 {
+    let k = of.index();
     u32_at(file, PAIRS_AT + LENGTH_AT + PAIR_BYTES * k) as usize
 }
 
-// Where section k ends. The sum of two numbers of 32 bits has 64: it does not wrap.
-fn end_of(file: &[u8], k: usize) -> usize
-    requires { (k < 3) × (head_bytes ≤ length file.now) }
-    ensures { result ≡ offset file.now k + extent file.now k }
+// Where a section ends. The sum of two numbers of 32 bits has 64: it does not wrap.
+fn end_of(file: &[u8], of: Section) -> usize
+    requires { head_bytes ≤ length file.now }
+    ensures { result ≡ offset file.now (index_of of) + extent file.now (index_of of) }
 {
-    offset(file, k) + extent(file, k)
+    offset(file, of) + extent(file, of)
 }
 
 // Pairs: 3.
-fn pairs_refusal(file: &[u8]) -> Refusal
+fn pairs_refusal(file: &[u8]) -> Result<(), Refusal>
     requires { head_bytes ≤ length file.now }
-    ensures { result ≡ pairs_refusal file.now }
+    ensures { checked result ≡ pairs_refusal file.now }
 {
-    if offset(file, 0) != HEAD_BYTES {
-        return refused(3, 0);
+    if offset(file, Section::Nodes) != HEAD_BYTES
+        || offset(file, Section::Wires) != end_of(file, Section::Nodes)
+        || offset(file, Section::Obstacles) != end_of(file, Section::Wires)
+        || file.len() != end_of(file, Section::Obstacles)
+    {
+        return Err(Refusal::Pairs);
     }
-    if offset(file, 1) != end_of(file, 0) {
-        return refused(3, 0);
-    }
-    if offset(file, 2) != end_of(file, 1) {
-        return refused(3, 0);
-    }
-    if file.len() != end_of(file, 2) {
-        return refused(3, 0);
-    }
-    none()
+    Ok(())
 }

@@ -5,32 +5,43 @@ ghost use Rattle.laws.specs.Lists.{over};
 ghost use Rattle.net.specs.Layout.{head_bytes};
 ghost use Rattle.net.specs.File.{head_of, file_of, file_bytes};
 ghost use Rattle.net.specs.Writing.{pairs_of};
+ghost use Rattle.net.specs.Numbers.{answered};
 ghost use Rattle.net.specs.Refusal.{write_answer, write_buffer};
 
 use crate::Answer;
-use crate::answers::{answered, none, refused};
 use crate::layout::{HEAD_BYTES, LENGTH_AT, PAIR_BYTES, PAIR_COUNT, PAIR_COUNT_AT, PAIRS_AT};
 use crate::read::net_refusal;
+use crate::refusal::Refusal;
 use crate::sections::is_version;
 
 // The file at the start of out, or the first of 2, 4 to 11, 20 and 16, with out as it was.
 pub fn write(version: u32, nodes: &[u8], wires: &[u8], obstacles: &[u8], out: &mut [u8]) -> Answer
     ensures { (result ≡ write_answer version nodes.now wires.now obstacles.now (length out.old)) × (out.new ≡ write_buffer version nodes.now wires.now obstacles.now out.old) }
 {
+    write_checked(version, nodes, wires, obstacles, out).into()
+}
+
+// The same, with the number of bytes written.
+fn write_checked(
+    version: u32,
+    nodes: &[u8],
+    wires: &[u8],
+    obstacles: &[u8],
+    out: &mut [u8],
+) -> Result<u64, Refusal>
+    ensures { (answered result ≡ write_answer version nodes.now wires.now obstacles.now (length out.old)) × (out.new ≡ write_buffer version nodes.now wires.now obstacles.now out.old) }
+{
     if !is_version(version) {
-        return answered(refused(2, 0), 0);
+        return Err(Refusal::Head);
     }
     let file_version = version as u16;
-    let r = net_refusal(file_version, nodes, wires, obstacles);
-    if r.number != 0 {
-        return answered(r, 0);
-    }
+    net_refusal(file_version, nodes, wires, obstacles)?;
     let needed = HEAD_BYTES + nodes.len() + wires.len() + obstacles.len();
     if out.len() < needed {
-        return answered(refused(16, needed as u64), 0);
+        return Err(Refusal::LentBuffer(needed as u64));
     }
     write_file(file_version, nodes, wires, obstacles, out);
-    answered(none(), needed as u64)
+    Ok(needed as u64)
 }
 
 // Head, nodes, wires and obstacles, one behind the other.
@@ -49,8 +60,8 @@ fn write_head(version: u16, nodes: usize, wires: usize, obstacles: usize, out: &
     requires { (head_bytes ≤ length out.old) × (head_bytes + nodes + wires < 18446744073709551616) }
     ensures { out.new ≡ over (head_of version nodes wires obstacles) out.old }
 {
-    put16(version, out);
-    put16(PAIR_COUNT, &mut out[PAIR_COUNT_AT..]);
+    copy(&version.to_le_bytes(), out);
+    copy(&PAIR_COUNT.to_le_bytes(), &mut out[PAIR_COUNT_AT..]);
     put_pairs(nodes, wires, obstacles, &mut out[PAIRS_AT..]);
 }
 
@@ -64,26 +75,6 @@ fn put_pairs(nodes: usize, wires: usize, obstacles: usize, out: &mut [u8])
     put_pair(HEAD_BYTES, nodes, out);
     put_pair(wires_at, wires, &mut out[PAIR_BYTES..]);
     put_pair(wires_at + wires, obstacles, &mut out[third..]);
-}
-
-// A number of 16 bits.
-fn put16(number: u16, out: &mut [u8])
-    requires { 2 ≤ length out.old }
-    ensures { out.new ≡ over (bytes16 number) out.old }
-{
-    out[0] = (number % 256) as u8;
-    out[1] = (number / 256 % 256) as u8;
-}
-
-// A number of 32 bits.
-fn put32(number: usize, out: &mut [u8])
-    requires { 4 ≤ length out.old }
-    ensures { out.new ≡ over (bytes32 number) out.old }
-{
-    out[0] = (number % 256) as u8;
-    out[1] = (number / 256 % 256) as u8;
-    out[2] = (number / 65536 % 256) as u8;
-    out[3] = (number / 16777216 % 256) as u8;
 }
 
 // An offset and, behind it, a length.
@@ -100,11 +91,7 @@ fn copy(source: &[u8], out: &mut [u8])
     requires { length source.now ≤ length out.old }
     ensures { out.new ≡ over source.now out.old }
 {
-    let mut i = 0;
-    while i < source.len() {
-        out[i] = source[i];
-        i += 1;
-    }
+    out[..source.len()].copy_from_slice(source);
 }
 
 // All of first, then all of second.
@@ -115,4 +102,12 @@ fn copy_two(first: &[u8], second: &[u8], out: &mut [u8])
     let at = first.len();
     copy(first, out);
     copy(second, &mut out[at..]);
+}
+
+// The low 32 bits of a number.
+fn put32(number: usize, out: &mut [u8])
+    requires { 4 ≤ length out.old }
+    ensures { out.new ≡ over (bytes32 number) out.old }
+{
+    out[..4].copy_from_slice(&((number & 0xffff_ffff) as u32).to_le_bytes());
 }

@@ -7,20 +7,17 @@ ghost use Rattle.net.specs.Layout.{newest, obstacle_bytes};
 ghost use Rattle.net.specs.Net.{obstacle_count};
 ghost use Rattle.obstacles.specs.Prepared.{prepared, prepared_record};
 
-use net::fields::{obstacle_bytes, obstacle_count, obstacle_layer};
-use net::layout::{NEWEST_VERSION, OBSTACLE_BYTES};
+use net::fields::{obstacle_at, obstacle_bytes, obstacle_count};
+use net::layout::{FIRST_OBSTACLE_BYTES, MOST_OBSTACLES, NEWEST_VERSION, OBSTACLE_BYTES};
 
 // The most bytes that obstacles take in that form.
-pub const PREPARED_BYTES: usize = 2304;
+pub const PREPARED_BYTES: usize = OBSTACLE_BYTES * MOST_OBSTACLES;
 
 // They have that form as they are: their version is the newest, or there are none.
 pub fn is_prepared(version: u16, obstacles: &[u8]) -> bool
     ensures { result ≡ (eqb version newest || eqb (length obstacles.now) 0) }
 {
-    if version == NEWEST_VERSION {
-        return true;
-    }
-    obstacles.len() == 0
+    version == NEWEST_VERSION || obstacles.is_empty()
 }
 
 // Writes the obstacles of a version at the start of out, in the form of the newest version; the bytes that they take there.
@@ -29,28 +26,19 @@ pub fn prepare(version: u16, obstacles: &[u8], out: &mut [u8]) -> usize
     ensures { (result ≡ obstacle_bytes newest * obstacle_count version obstacles.now) × (out.new ≡ over (prepared version obstacles.now) out.old) }
 {
     let count = obstacle_count(version, obstacles);
-    let mut k = 0;
-    while k < count {
-        let at = OBSTACLE_BYTES * k;
-        prepare_one(version, obstacles, k, &mut out[at..]);
-        k += 1;
+    for k in 0..count {
+        prepare_one(version, obstacles, k, &mut out[OBSTACLE_BYTES * k..]);
     }
     OBSTACLE_BYTES * count
 }
 
-// Obstacle k: its corners, then its layer.
+// Obstacle k: its corners, which are all of an obstacle of version 1, then its layer.
 fn prepare_one(version: u16, obstacles: &[u8], k: usize, out: &mut [u8])
     requires { (k < obstacle_count version obstacles.now) × (obstacle_bytes newest ≤ length out.old) }
     ensures { out.new ≡ over (prepared_record version obstacles.now k) out.old }
 {
     let at = obstacle_bytes(version) * k;
-    out[0] = obstacles[at];
-    out[1] = obstacles[at + 1];
-    out[2] = obstacles[at + 2];
-    out[3] = obstacles[at + 3];
-    out[4] = obstacles[at + 4];
-    out[5] = obstacles[at + 5];
-    out[6] = obstacles[at + 6];
-    out[7] = obstacles[at + 7];
-    out[8] = obstacle_layer(version, obstacles, k);
+    let corners = &obstacles[at..at + FIRST_OBSTACLE_BYTES];
+    out[..FIRST_OBSTACLE_BYTES].copy_from_slice(corners);
+    out[FIRST_OBSTACLE_BYTES] = obstacle_at(version, obstacles, k).layer;
 }

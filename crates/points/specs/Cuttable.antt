@@ -1,6 +1,6 @@
 -- What the search for points of a wire that may be cut promises.
 -- Assumes nothing.
-use Rattle.std.specs.Prelude.{ℕ, ◌*◌, ◌<◌, ◌≤◌, ◌≡◌, ◌⊎◌, Bool, true, false, List, length}
+use Rattle.std.specs.Prelude.{ℕ, ◌*◌, ◌<◌, ◌≤◌, ◌≡◌, ◌⊎◌, Bool, true, false, List, length, Option, None, Some}
 use Rattle.net.specs.Layout.{wire_bytes}
 use Rattle.net.specs.Net.{node_count, node_x, node_y, wire_parent}
 
@@ -12,19 +12,29 @@ pub record Checked (nodes wires : List ℕ) (i : ℕ) : Type 0 where
   pub parent : wire_parent wires i < node_count nodes
   pub straight : (node_x nodes i ≡ node_x nodes (wire_parent wires i)) ⊎ (node_y nodes i ≡ node_y nodes (wire_parent wires i))
 
--- r is the highest position of 1 to x that is not barred, or 0 where all are
-pub record Highest (barred : ℕ → Bool) (x r : ℕ) : Type 0 where
+-- r is the highest position of 1 to x that is not barred
+pub record HighestAt (barred : ℕ → Bool) (x r : ℕ) : Type 0 where
+  pub positive : 0 < r
   pub within : r ≤ x
-  pub free : 0 < r → barred r ≡ false
+  pub free : barred r ≡ false
   pub above : (t : ℕ) → r < t → t ≤ x → barred t ≡ true
 
--- r is the lowest position of x to end − 1 that is not barred, or 0 where all are
-pub record Lowest (barred : ℕ → Bool) (x end r : ℕ) : Type 0 where
-  pub from : 0 < r → x ≤ r
-  pub within : 0 < r → r < end
-  pub free : 0 < r → barred r ≡ false
+-- the highest position of 1 to x that is not barred, or none where all are
+abbrev pub Highest : (ℕ → Bool) → ℕ → Option ℕ → Type 0
+Highest barred x None = (t : ℕ) → 0 < t → t ≤ x → barred t ≡ true
+Highest barred x (Some r) = HighestAt barred x r
+
+-- r is the lowest position of x to end − 1 that is not barred
+pub record LowestAt (barred : ℕ → Bool) (x end r : ℕ) : Type 0 where
+  pub from : x ≤ r
+  pub within : r < end
+  pub free : barred r ≡ false
   pub below : (t : ℕ) → x ≤ t → t < r → barred t ≡ true
-  pub none : r ≡ 0 → (t : ℕ) → x ≤ t → t < end → barred t ≡ true
+
+-- the lowest position of x to end − 1 that is not barred, or none where all are
+abbrev pub Lowest : (ℕ → Bool) → ℕ → ℕ → Option ℕ → Type 0
+Lowest barred x end None = (t : ℕ) → x ≤ t → t < end → barred t ≡ true
+Lowest barred x end (Some r) = LowestAt barred x end r
 
 -- r is a position below every position t that passes the test, and all from r + 1 to t pass it
 abbrev pub LastBelow : (ℕ → Bool) → ℕ → Type 0

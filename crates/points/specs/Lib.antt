@@ -1,3 +1,5 @@
 pub mod Cuttable
 pub mod Geometry
+pub mod Lines
+pub mod Signed
 pub mod Excluded

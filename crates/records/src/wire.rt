@@ -15,7 +15,7 @@ ghost use Rattle.records.specs.Wire.{WireReady, EntriesReady, joined_wire, parte
 
 use crate::record::{Record, join_record};
 use lists::entries::entry_position;
-use net::fields::{is_present, node_flags, wire_factor, wire_layer, wire_parent};
+use net::fields::{Wire, is_present, node_at, wire_at};
 use net::layout::RECORD_BYTES;
 use points::length_of;
 use std::ops::Range;
@@ -71,16 +71,15 @@ pub fn write_stretches(
     jumpers: &[u8],
     i: usize,
     entries: Range<usize>,
-    factor: u8,
-    layer: u8,
+    wire: Wire,
     out: &mut [u8],
     at: usize,
 ) -> usize
-    requires i_lt_most_nodes { (i < most_nodes) × (entries.start ≤ entries.end) × (entries.end ≤ entry_count jumpers.now) × (1 ≤ layer) × (layer ≤ most_layers) }
+    requires i_lt_most_nodes { (i < most_nodes) × (entries.start ≤ entries.end) × (entries.end ≤ entry_count jumpers.now) × (1 ≤ wire.layer) × (wire.layer ≤ most_layers) }
     requires by_index { (d : ℕ) → entries.start ≤ d → d + 1 < entries.end → entry_position jumpers.now d ≤ entry_position jumpers.now (d + 1) }
     requires room { at + record_bytes * (entries.end - entries.start - 1) ≤ length out.old }
     ensures { (result ≡ at + record_bytes * (entries.end - entries.start - 1))
-        × (out.new ≡ place at (stretches_fields jumpers.now i factor layer entries.start (entries.end - entries.start - 1)) out.old) }
+        × (out.new ≡ place at (stretches_fields jumpers.now i wire.factor wire.layer entries.start (entries.end - entries.start - 1)) out.old) }
 {
     let mut next = at;
     for d in entries.start + 1..entries.end {
@@ -88,9 +87,9 @@ pub fn write_stretches(
         let stretch = Record {
             number: i as u8,
             position: from,
-            weight: weight_of(entry_position(jumpers, d) - from, factor),
+            weight: weight_of(entry_position(jumpers, d) - from, wire.factor),
             flags: 0,
-            layers: mask_of(layer),
+            layers: mask_of(wire.layer),
         };
         stretch.write(&mut out[next..]);
         next += RECORD_BYTES;
@@ -104,17 +103,16 @@ fn join_wire(limit: u32, nodes: &[u8], wires: &[u8], i: usize, places: &mut [usi
     ensures { (places.new ≡ set places.old i (get_or places.old (wire_parent wires.now i) 0))
         × (out.new ≡ joined_wire limit nodes.now wires.now i places.old out.old) }
 {
-    let above = places[wire_parent(wires, i)];
+    let wire = wire_at(wires, i);
+    let above = places[wire.parent];
     let len = length_of(nodes, wires, i);
-    let weight = weight_of(len, wire_factor(wires, i));
-    let layers = layers_of(len, wire_layer(wires, i));
     places[i] = above;
     join_record(
         &mut out[above..],
         limit,
-        weight,
-        node_flags(nodes, i),
-        layers,
+        weight_of(len, wire.factor),
+        node_at(nodes, i).flags,
+        layers_of(len, wire.layer),
     );
 }
 
@@ -136,25 +134,24 @@ fn part_wire(
     ensures { (result ≡ at + record_bytes * (entries.end - entries.start)) × (places.new ≡ set places.old i at)
         × (out.new ≡ parted_wire limit nodes.now wires.now jumpers.now i entries.start entries.end places.old at out.old) }
 {
-    let above = places[wire_parent(wires, i)];
-    let factor = wire_factor(wires, i);
-    let layer = wire_layer(wires, i);
-    let mask = mask_of(layer);
+    let wire = wire_at(wires, i);
+    let above = places[wire.parent];
+    let mask = mask_of(wire.layer);
     let first = entry_position(jumpers, entries.start);
     let last = entry_position(jumpers, entries.end - 1);
-    let end_weight = weight_of(length_of(nodes, wires, i) - last, factor);
+    let end_weight = weight_of(length_of(nodes, wires, i) - last, wire.factor);
     join_record(&mut out[above..], limit, end_weight, 0, mask);
     let behind = start_piece(
         limit,
         i,
-        weight_of(first, factor),
-        node_flags(nodes, i),
+        weight_of(first, wire.factor),
+        node_at(nodes, i).flags,
         mask,
         places,
         out,
         at,
     );
-    write_stretches(jumpers, i, entries, factor, layer, out, behind)
+    write_stretches(jumpers, i, entries, wire, out, behind)
 }
 
 // Node i with its wire, whose entries in the list are those: the buffer, which begins with the records of the nodes below i, then begins with those of the
@@ -179,7 +176,7 @@ pub fn take_wire(
         × (drop result out.new ≡ drop result out.old) }
 {
     if !is_present(stage, wires, i) {
-        return start_piece(limit, i, 0, node_flags(nodes, i), 0, places, out, at);
+        return start_piece(limit, i, 0, node_at(nodes, i).flags, 0, places, out, at);
     }
     if entries.is_empty() {
         join_wire(limit, nodes, wires, i, places, out);

@@ -4,9 +4,8 @@ use Rattle.std.specs.declared.option.Option.{Option}
 use Rattle.std.specs.Io.KnownBytes.{Appends}
 use Rattle.std.proofs.Math.Seq.{take_at}
 use Rattle.net.specs.declared.Answer.{Answer}
-use Rattle.net.specs.declared.Refusal.{Refusal}
 use Rattle.net.specs.Layout.{entry_bytes}
-use Rattle.net.specs.Refusal.{met, answer, refusal, none}
+use Rattle.net.specs.Refusal.{Verdict, met, answer, refusal, none}
 use Rattle.net.specs.Call.{net_at, call_refusal}
 use Rattle.repairs.specs.Promise.{Repaired, Judged, no_legal_set, too_short, done}
 use Rattle.antenna.specs.Exactly.{enough}
@@ -18,7 +17,7 @@ turned true e = sym e
 turned false e = refl
 
 -- a refusal's line, whatever the buffer holds
-line_of : (q : Refusal) (r : Answer) (after : List ℕ) → met q ≡ true → r ≡ answer q 0 → answer_lines r after ≡ refusal_line q.number q.place
+line_of : (q : Verdict) (r : Answer) (after : List ℕ) → met q ≡ true → r ≡ answer q 0 → answer_lines r after ≡ refusal_line q.number q.place
 unfolding answer
 line_of q r after m e = let n = turned (eqb q.number 0) m in rw (e, n) refl
 

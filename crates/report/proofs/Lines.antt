@@ -5,9 +5,8 @@ use Rattle.std.proofs.lemmas.List.{drop_all, length-take-le}
 use Rattle.std.specs.declared.option.Option.{Option}
 use Rattle.std.specs.Io.KnownBytes.{Appends}
 use Rattle.net.specs.declared.Answer.{Answer}
-use Rattle.net.specs.declared.Refusal.{Refusal}
 use Rattle.net.specs.Layout.{record_bytes}
-use Rattle.net.specs.Refusal.{met, answer}
+use Rattle.net.specs.Refusal.{Verdict, met, answer}
 use Rattle.net.specs.Call.{net_at}
 use Rattle.pieces.specs.JumperList.{set_of}
 use Rattle.pieces.specs.Report.{report_of}
@@ -25,16 +24,16 @@ same true e = refl
 same false e = sym e
 
 -- what an answer with this refusal shows
-refused_lines : (q : Refusal) (count : ℕ) (out : List ℕ) → met q ≡ true → answer_lines (answer q count) out ≡ refusal_line q.number q.place
+refused_lines : (q : Verdict) (count : ℕ) (out : List ℕ) → met q ≡ true → answer_lines (answer q count) out ≡ refusal_line q.number q.place
 unfolding answer
 refused_lines q count out m = rw (turned (eqb q.number 0) m) refl
 
-done_lines : (q : Refusal) (count : ℕ) (records rest : List ℕ) → met q ≡ false → length records ≡ record_bytes * count → answer_lines (answer q count) (records ++ rest) ≡ record_lines records
+done_lines : (q : Verdict) (count : ℕ) (records rest : List ℕ) → met q ≡ false → length records ≡ record_bytes * count → answer_lines (answer q count) (records ++ rest) ≡ record_lines records
 unfolding answer
 done_lines q count records rest m whole = rw (same (eqb q.number 0) m) (ap record_lines (take_at records rest (record_bytes * count) whole))
 
 -- an answer with its buffer, whether its refusal is met or not
-either_lines : (q : Refusal) (count : ℕ) (out records rest : List ℕ) → length records ≡ record_bytes * count → (t : Bool) → met q ≡ t →
+either_lines : (q : Verdict) (count : ℕ) (out records rest : List ℕ) → length records ≡ record_bytes * count → (t : Bool) → met q ≡ t →
     answer_lines (answer q count) (cond t out (records ++ rest)) ≡ cond t (refusal_line q.number q.place) (record_lines records)
 either_lines q count out records rest whole true m = refused_lines q count out m
 either_lines q count out records rest whole false m = done_lines q count records rest m whole

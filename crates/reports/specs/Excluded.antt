@@ -5,12 +5,11 @@ use Rattle.std.proofs.Common.{sym, ◌∙◌}
 use mathlib.Core.List.{List, [], ◌∷◌, ◌++◌, flat_map}
 use Rattle.laws.specs.Sum.{sum, any, lowest, highest}
 use Rattle.laws.specs.Gather.{gather}
-use Rattle.net.specs.declared.Refusal.{Refusal}
 use Rattle.net.specs.Layout.{record_bytes}
 use Rattle.net.specs.Net.{wire_length, point_x, point_y, holds, barred}
 use Rattle.net.specs.Stage.{stage_of}
 use Rattle.net.specs.File.{file_of, head_of, pairs_right, stretch}
-use Rattle.net.specs.Refusal.{none, refusal, met, answer, stage_refusal, read_refusal, is_version, head_refusal, pairs_refusal, net_refusal, sections_refusal, node_refusal, wire_refusal, obstacle_refusal, first_of, section_of}
+use Rattle.net.specs.Refusal.{Verdict, none, refusal, met, answer, stage_refusal, read_refusal, is_version, head_refusal, pairs_refusal, net_refusal, sections_refusal, node_refusal, wire_refusal, obstacle_refusal, first_of, section_of}
 use Rattle.net.specs.Call.{net_at, call_refusal}
 use Rattle.pieces.specs.Piece.{weight_of, has_gate, has_source, is_harmful}
 use Rattle.pieces.specs.Legal.{listed, after}
@@ -53,15 +52,15 @@ reports stage limit file list n records call listed count bytes out room =
     )
 
 -- report refuses, and the buffer holds what it held
-abbrev pub Refuses : ℕ → ℕ → List ℕ → List ℕ → Refusal → List ℕ → Type 0
+abbrev pub Refuses : ℕ → ℕ → List ℕ → List ℕ → Verdict → List ℕ → Type 0
 Refuses stage limit file list r out = (report_answer stage file list (length out) ≡ answer r 0) × (report_buffer stage limit file list out ≡ out)
 
-refuses_call : (stage limit : ℕ) (file list : List ℕ) (r : Refusal) → call_refusal stage file ≡ r → met r ≡ true → (out : List ℕ) → Refuses stage limit file list r out
+refuses_call : (stage limit : ℕ) (file list : List ℕ) (r : Verdict) → call_refusal stage file ≡ r → met r ≡ true → (out : List ℕ) → Refuses stage limit file list r out
 refuses_call stage limit file list r e m out =
     let h : met (call_refusal stage file) ≡ true = rw e m in
     (sym (rw e at (call_refused_answer stage file list limit out h)), sym (call_refused_buffer stage file list limit out h))
 
-refuses_list : (stage limit : ℕ) (file list : List ℕ) (r : Refusal) → met (call_refusal stage file) ≡ false → list_refusal (net_at file stage) list ≡ r → met r ≡ true →
+refuses_list : (stage limit : ℕ) (file list : List ℕ) (r : Verdict) → met (call_refusal stage file) ≡ false → list_refusal (net_at file stage) list ≡ r → met r ≡ true →
     (out : List ℕ) → Refuses stage limit file list r out
 refuses_list stage limit file list r call e m out =
     let h : met (list_refusal (net_at file stage) list) ≡ true = rw e m in

@@ -2,10 +2,9 @@
 -- Assumes nothing.
 use Rattle.std.specs.Prelude.{ℕ, ◌≡◌, List}
 use Rattle.std.proofs.Common.{◌∙◌, ap}
-use Rattle.net.specs.declared.Refusal.{Refusal}
 use Rattle.net.specs.Stage.{Stage, stage_of}
 use Rattle.net.specs.File.{version_of}
-use Rattle.net.specs.Refusal.{nodes_of, wires_of, obstacles_of}
+use Rattle.net.specs.Refusal.{Verdict, nodes_of, wires_of, obstacles_of}
 use Rattle.net.specs.Call.{net_at, call_refusal}
 use Rattle.net.specs.Calls.{call_unmet, call_right}
 use Rattle.pieces.specs.JumperList.{list_refusal}
@@ -13,16 +12,16 @@ use Rattle.lists.specs.EntriesChecked.{list_none}
 use Rattle.records.specs.ListRight.{ListRight, AtAccepted}
 use Rattle.reports.specs.Promise.{piece_count}
 
-pub numbered : {r q : Refusal} → r ≡ q → r.number ≡ 0 → q.number ≡ 0
+pub numbered : {r q : Verdict} → r ≡ q → r.number ≡ 0 → q.number ≡ 0
 numbered e h = rw e at h
 
 module _ (stage : ℕ) (file list : List ℕ) where
   -- the list's refusal on sections equal to those of the file
-  pub list_at : {ns ws os : List ℕ} {v : ℕ} {r : Refusal} → ns ≡ nodes_of file → ws ≡ wires_of file → v ≡ version_of file → os ≡ obstacles_of file →
+  pub list_at : {ns ws os : List ℕ} {v : ℕ} {r : Verdict} → ns ≡ nodes_of file → ws ≡ wires_of file → v ≡ version_of file → os ≡ obstacles_of file →
       r ≡ list_refusal (stage_of v ns ws os stage) list → r ≡ list_refusal (net_at file stage) list
   list_at a b c d e = rw (a, b, c, d) at e
 
-  pub right_here : {r : Refusal} → (call_refusal stage file).number ≡ 0 → r ≡ list_refusal (net_at file stage) list → r.number ≡ 0 →
+  pub right_here : {r : Verdict} → (call_refusal stage file).number ≡ 0 → r ≡ list_refusal (net_at file stage) list → r.number ≡ 0 →
       ListRight (version_of file) (nodes_of file) (wires_of file) stage list (obstacles_of file)
   right_here z e h = record { right = call_right stage file (call_unmet stage file z); listed = list_none (net_at file stage) list (rw e at h) }
 

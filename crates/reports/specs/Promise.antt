@@ -2,10 +2,9 @@
 -- Assumes nothing.
 use Rattle.std.specs.Prelude.{ℕ, ◌*◌, cond, List, ◌++◌, length, drop}
 use Rattle.net.specs.declared.Answer.{Answer}
-use Rattle.net.specs.declared.Refusal.{Refusal}
 use Rattle.net.specs.Layout.{record_bytes}
 use Rattle.net.specs.Stage.{Stage}
-use Rattle.net.specs.Refusal.{met, or_else, lent_refusal, answer}
+use Rattle.net.specs.Refusal.{Verdict, met, or_else, lent_refusal, answer}
 use Rattle.net.specs.Call.{net_at, call_refusal}
 use Rattle.pieces.specs.JumperList.{set_of, list_refusal}
 use Rattle.pieces.specs.Report.{piece_names, report_of}
@@ -19,7 +18,7 @@ unfoldable pub pieces_buffer : Stage → ℕ → List ℕ → List ℕ → List 
 pieces_buffer s limit list out = report_of s limit (set_of list) ++ drop (record_bytes * piece_count s list) out
 
 -- report: 1, 2 to 11 and 20, 12 to 14, 16
-unfoldable pub report_refusal : ℕ → List ℕ → List ℕ → ℕ → Refusal
+unfoldable pub report_refusal : ℕ → List ℕ → List ℕ → ℕ → Verdict
 report_refusal stage file list lent =
     or_else (call_refusal stage file)
     (or_else (list_refusal (net_at file stage) list) (lent_refusal (record_bytes * piece_count (net_at file stage) list) lent))

@@ -5,10 +5,9 @@ use Rattle.std.proofs.Common.{◌∙◌, zero-add}
 use borrow.Author.Tests.{lt-ltb, le-ltb}
 use Rattle.laws.specs.Lists.{over}
 use Rattle.laws.specs.Place.{place}
-use Rattle.net.specs.declared.Refusal.{Refusal}
 use Rattle.net.specs.Layout.{record_bytes}
 use Rattle.net.specs.Stage.{Stage}
-use Rattle.net.specs.Refusal.{none, refusal, met, or_else, lent_refusal, answer}
+use Rattle.net.specs.Refusal.{Verdict, none, refusal, met, or_else, lent_refusal, answer}
 use Rattle.net.specs.Call.{net_at, call_refusal}
 use Rattle.net.specs.First.{first-met, second-first}
 use Rattle.pieces.specs.JumperList.{list_refusal, set_of}
@@ -17,7 +16,7 @@ use Rattle.pieces.specs.Reports.{report_length}
 use Rattle.reports.specs.Promise.{piece_count, pieces_buffer, report_refusal, report_answer, report_buffer}
 
 -- a refused answer has count 0 whatever is counted
-pub answer-refused : (r : Refusal) (m n : ℕ) → met r ≡ true → answer r m ≡ answer r n
+pub answer-refused : (r : Verdict) (m n : ℕ) → met r ≡ true → answer r m ≡ answer r n
 unfolding answer
 answer-refused r m n h = rw h
 

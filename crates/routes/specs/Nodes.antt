@@ -2,8 +2,7 @@
 -- Assumes nothing.
 use Rattle.std.specs.Prelude.{ℕ, Bool, false, not, ◌&&◌, cond, List, [], ◌∷◌, ◌++◌, eqb, ltb, length, get_or}
 use Rattle.laws.specs.Sum.{any, lowest}
-use Rattle.net.specs.declared.Refusal.{Refusal}
-use Rattle.net.specs.Refusal.{none, refusal, refused_if, or_else}
+use Rattle.net.specs.Refusal.{Verdict, none, refusal, refused_if, or_else}
 use Rattle.paths.specs.declared.Point.{Point}
 use Rattle.paths.specs.declared.Read.{Read}
 use Rattle.paths.specs.declared.Read.TheVariants.{Wrong, End, Whole}
@@ -72,12 +71,12 @@ unfoldable pub point_refused : List Node → Point → Bool
 point_refused nodes p =
     cond p.first (not (eqb (length nodes) 0) && not (known_at nodes p.x p.y)) (known nodes p.x p.y p.layer)
 
-unfoldable pub points_refusal : List Node → Point → List Point → Refusal
+unfoldable pub points_refusal : List Node → Point → List Point → Verdict
 points_refusal nodes before [] = none
 points_refusal nodes before (p ∷ points) = or_else (refused_if (point_refused nodes p) 18 p.at) (points_refusal (reach nodes before p) p points)
 
 -- 17: the text leaves the form
-unfoldable pub form_refusal : Read → Refusal
+unfoldable pub form_refusal : Read → Verdict
 form_refusal (Wrong at) = refusal 17 at
 form_refusal (End next) = none
 form_refusal (Whole p next) = none
@@ -87,7 +86,7 @@ abbrev pub no_point : Point
 no_point = record { at = 0; layer = 0; first = false; x = 0; y = 0 }
 
 -- of 17 and 18 the one earlier in the text: each whole point stands before the word that leaves the form
-unfoldable pub route_refusal : List ℕ → ℕ → Refusal
+unfoldable pub route_refusal : List ℕ → ℕ → Verdict
 route_refusal text place = or_else (points_refusal [] no_point (points_of text place)) (form_refusal (ending_of text place))
 
 -- the nodes of the route from a place on, and the place after its `;`

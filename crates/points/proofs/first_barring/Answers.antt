@@ -1,24 +1,25 @@
 -- `points::first_barring` meets its contract. Assumes nothing.
-use borrow.Author.Count.{below_none, below_more}
-use native.Mathlib.Omega.{arith}
-use mathlib.Core.Path.{◌∙◌, sym}
-use borrow.Author.Rules.{rules}
+use Rattle.std.proofs.Common.{◌∙◌, sym, arith}
+use borrow.Author.Count.{below_more}
+use Rattle.points.specs.Lines.{bars, IsObstacle, bars_is, first-none}
 use Rattle.points.proofs.first_barring.Goals as goal
 
-pub loop-k-init : goal.loop-k-init
-loop-k-init c = (c.obstacle_count-count.ensures, search rules, below_none _)
-
-pub returns-then-bars_point : goal.returns-then-bars_point
-returns-then-bars_point c =
-    let inv = c.loop-k.invariant in
-    (omega arith, inv.2, λ l. sym c.bars_point.ensures ∙ c.if-bars_point.true)
+pub returns-then-bars : goal.returns-then-bars
+returns-then-bars c =
+    let a = c.args in
+    let o = c.obstacle_at-obstacle in
+    let e = o.ensures in
+    let is : IsObstacle a.version a.obstacles.now c.loop-k.k o.result = record { x1 = e.x1; y1 = e.y1; x2 = e.x2; y2 = e.y2; layer = e.layer } in
+    record { k = c.loop-k.k; inside = omega arith; is = is; barring = sym (bars_is is a.layer a.p) ∙ sym c.bars.ensures ∙ c.if-bars.true }
 
 pub loop-k-preserved : goal.loop-k-preserved
 loop-k-preserved c =
-    let inv = c.loop-k.invariant in
-    (inv.0, omega arith, below_more _ _ inv.2 (sym c.bars_point.ensures ∙ c.if-bars_point.false))
+    let a = c.args in
+    let e = c.obstacle_at-obstacle.ensures in
+    let is : IsObstacle a.version a.obstacles.now c.loop-k.k c.obstacle_at-obstacle.result = record { x1 = e.x1; y1 = e.y1; x2 = e.x2; y2 = e.y2; layer = e.layer } in
+    below_more _ _ c.loop-k.invariant (sym (bars_is is a.layer a.p) ∙ sym c.bars.ensures ∙ c.if-bars.false)
 
 pub returns : goal.returns
 returns c =
-    let inv = c.loop-k.invariant in
-    (omega arith, inv.2, λ l. let none : ⊥ = omega arith in absurd none)
+    let a = c.args in
+    first-none _ c.loop-k.k (λ k. bars a.version a.obstacles.now a.layer k a.p.x a.p.y) c.loop-k.invariant (omega arith)

@@ -1,73 +1,29 @@
 -- `points::highest_free` meets its contract. Assumes nothing.
-use Rattle.points.specs.Geometry.{reach_less, bars, barred_at, first-none, leap_down}
-use Rattle.net.specs.Layout.{newest}
-use Rattle.net.specs.Net.{obstacle_count}
-use mir.Facts.{to_z-of_z}
-use mir.Val.{to_z, of_z}
-use mir.Syntax.{w32}
-use native.Mathlib.Omega.{arith}
-use mathlib.Core.Bool.{true}
-use mathlib.Core.Path.{◌≡◌}
-use Prim.Native.Nat.{ℕ, ◌<◌, ◌≤◌}
-use borrow.Author.Rules.{rules}
+use Rattle.std.proofs.Common.{ℕ, ◌<◌, ◌≤◌, ◌≡◌, true, arith}
+use Rattle.points.specs.Lines.{barred_at, leap_down}
 use Rattle.points.proofs.highest_free.Goals as goal
 
 leap : (c : goal.After-last_below-t) →
-    let a = c.args in
-    (c.last_below-t.result < c.loop-t.t)
-    × ((s : ℕ) → c.last_below-t.result < s → s ≤ a.last → barred_at a.obstacles.now a.layer a.x a.y (to_z w32 (of_z w32 a.dx)) (to_z w32 (of_z w32 a.dy)) s ≡ true)
+    (c.last_below-t.result < c.loop-t.t) × ((s : ℕ) → c.last_below-t.result < s → s ≤ c.args.last → barred_at c.args.obstacles.now c.args.line s ≡ true)
 leap c =
-    let a = c.args in
-    let inv = c.loop-t.invariant in
-    let f = c.first_barring-k in
-    let inside : f.result < obstacle_count newest a.obstacles.now = omega (arith, f.ensures.0, c.if-k-count.false) in
-    let barring = rw (c.at_step.ensures, c.at_step-in-loop-t.ensures) at (f.ensures.2 inside) in
-    leap_down a.obstacles.now a.layer f.result a.x a.y (to_z w32 (of_z w32 a.dx)) (to_z w32 (of_z w32 a.dy)) inside barring
+    leap_down c.args.obstacles.now c.args.line c.loop-t.t (rw c.at.ensures at c.in-Some.ensures)
     c.loop-t-test.true
     c.last_below-t.ensures
-    inv.2
-
-pub loop-t-init : goal.loop-t-init
-loop-t-init c = (c.obstacle_count-count.ensures, search rules, λ s l m. let none : ⊥ = omega arith in absurd none)
-
-pub at_step-requires : goal.at_step-requires
-at_step-requires c = rw (to_z-of_z c.ranges.dx) (reach_less c.requires.0 c.loop-t.invariant.1)
-
-pub at_step-requires-in-loop-t : goal.at_step-requires-in-loop-t
-at_step-requires-in-loop-t c = rw (to_z-of_z c.ranges.dy) (reach_less c.requires.1 c.loop-t.invariant.1)
-
-pub returns-then-k-count : goal.returns-then-k-count
-unfolding barred_at
-returns-then-k-count c =
-    let a = c.args in
-    let inv = c.loop-t.invariant in
-    let f = c.first_barring-k in
-    let x = rw (to_z-of_z c.ranges.dx) at c.at_step.ensures in
-    let y = rw (to_z-of_z c.ranges.dy) at c.at_step-in-loop-t.ensures in
-    record {
-      within = inv.1;
-      free = λ p.
-          rw (← x, ← y)
-          (first-none _ f.result (λ k. bars newest a.obstacles.now a.layer k c.at_step.result c.at_step-in-loop-t.result) f.ensures.1 (omega (arith, c.if-k-count.true)));
-      above = λ t l m. rw (to_z-of_z c.ranges.dx, to_z-of_z c.ranges.dy) at (inv.2 t l m);
-    }
-
-pub last_below-t-requires : goal.last_below-t-requires
-last_below-t-requires c = omega (arith, c.first_barring-k.ensures.0, c.if-k-count.false)
+    c.loop-t.invariant.1
 
 pub loop-t-smaller : goal.loop-t-smaller
 loop-t-smaller c = (leap c).0
 
 pub loop-t-preserved : goal.loop-t-preserved
-loop-t-preserved c =
-    let inv = c.loop-t.invariant in
-    (inv.0, omega (arith, (leap c).0), (leap c).1)
+loop-t-preserved c = (omega (arith, (leap c).0), (leap c).1)
 
-pub returns : goal.returns
-returns c =
+pub returns-in-None : goal.returns-in-None
+unfolding barred_at
+returns-in-None c =
     let inv = c.loop-t.invariant in
     record {
-      within = omega arith;
-      free = λ p. let none : ⊥ = omega arith in absurd none;
-      above = λ t l m. rw (to_z-of_z c.ranges.dx, to_z-of_z c.ranges.dy) at (inv.2 t (omega arith) m);
+      positive = c.loop-t-test.true;
+      within = inv.0;
+      free = rw c.at.ensures at c.in-None.ensures;
+      above = inv.1;
     }

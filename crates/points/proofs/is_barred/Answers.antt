@@ -1,21 +1,20 @@
 -- `points::is_barred` meets its contract. Assumes nothing.
+use Rattle.std.proofs.Common.{◌≡◌, ◌∙◌, sym, length, eqb-true}
 use native.Mathlib.Nat.{zero-div}
 use Rattle.laws.specs.Sum.{any}
-use Rattle.points.specs.Geometry.{bars, first_any}
 use Rattle.net.specs.Net.{barred}
+use Rattle.points.specs.Lines.{first_any}
 use Rattle.points.proofs.is_barred.Goals as goal
 
-pub returns-then-obstacles-eq0 : goal.returns-then-obstacles-eq0
+pub returns-then-is_empty : goal.returns-then-is_empty
 unfolding barred any
-returns-then-obstacles-eq0 c = rw (c.if-obstacles-eq0.true, zero-div)
+returns-then-is_empty c =
+    let e : length c.args.obstacles.now ≡ 0 = eqb-true _ 0 (sym c.is_empty.ensures ∙ c.if-is_empty.true) in
+    rw (e, zero-div)
 
 pub returns : goal.returns
 unfolding barred
 returns c =
     let a = c.args in
-    let w = c.wire_layer in
-    let x = c.point_x in
-    let y = c.point_y in
-    let f = c.first_barring in
-    rw (c.obstacle_count.ensures, ← w.ensures, ← x.ensures, ← y.ensures)
-    (first_any _ f.result (λ k. bars a.version a.obstacles.now w.result k x.result y.result) f.ensures.1 f.ensures.2)
+    rw (c.is_some.ensures, ← c.wire_at-layer.ensures.layer, ← c.point_at.ensures.x, ← c.point_at.ensures.y)
+    (first_any a.version a.obstacles.now c.wire_at-layer.result.layer c.point_at.result c.first_barring.result c.first_barring.ensures)

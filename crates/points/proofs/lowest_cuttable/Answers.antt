@@ -1,41 +1,14 @@
 -- `points::lowest_cuttable` meets its contract. Assumes nothing.
-use Rattle.points.specs.Geometry.{reach-x, reach-y, barred_is, lowest_ap}
+use Rattle.std.proofs.Common.{arith}
 use Rattle.net.specs.Net.{wire_length}
-use Prim.Native.Nat.{◌≤◌}
-use mir.Facts.{to_z-of_z}
-use mir.Syntax.{w32}
-use native.Mathlib.Omega.{arith}
+use Rattle.points.specs.Lines.{barred_is, lowest_ap}
 use Rattle.points.proofs.lowest_cuttable.Goals as goal
 
 pub lowest_free-requires : goal.lowest_free-requires
-lowest_free-requires c =
-    let a = c.args in
-    let p = c.wire_parent-p.ensures in
-    let x = c.node_x-fx.ensures in
-    let y = c.node_y-fy.ensures in
-    let px = c.node_x.ensures in
-    let dx = c.direction-dx in
-    let py = c.node_y.ensures in
-    let dy = c.direction-dy in
-    let ex = to_z-of_z {w = w32} {z = dx.result} (record { sfits = dx.type_inv }) in
-    let ey = to_z-of_z {w = w32} {z = dy.result} (record { sfits = dy.type_inv }) in
-    let l : c.length_of.result ≤ wire_length a.nodes.now a.wires.now a.i = omega (arith, c.length_of.ensures.0) in
-    let rx = reach-x a.nodes.now a.wires.now a.i (λ k. omega (arith, c.type_inv.nodes k)) c.requires.0 l in
-    let ry = reach-y a.nodes.now a.wires.now a.i (λ k. omega (arith, c.type_inv.nodes k)) c.requires.0 l in
-    (rw (ex, dx.ensures, x, px, p) rx, rw (ey, dy.ensures, y, py, p) ry, c.requires.1)
+lowest_free-requires c = (c.of_wire.ensures.reaches c.length_of-end.result (omega (arith, c.length_of-end.ensures.0)), c.requires.1)
 
 pub returns : goal.returns
 returns c =
     let a = c.args in
-    let p = c.wire_parent-p.ensures in
-    let x = c.node_x-fx.ensures in
-    let y = c.node_y-fy.ensures in
-    let px = c.node_x.ensures in
-    let dx = c.direction-dx in
-    let py = c.node_y.ensures in
-    let dy = c.direction-dy in
-    let w = c.wire_layer.ensures in
-    let ex = to_z-of_z {w = w32} {z = dx.result} (record { sfits = dx.type_inv }) in
-    let ey = to_z-of_z {w = w32} {z = dy.result} (record { sfits = dy.type_inv }) in
-    lowest_ap (barred_is a.nodes.now a.wires.now a.obstacles.now a.i)
-    (rw (ex, ey, dx.ensures, dy.ensures, w, x, y, px, py, p, c.length_of.ensures.0) at c.lowest_free.ensures)
+    lowest_ap a.x (wire_length a.nodes.now a.wires.now a.i) c.lowest_free.result (barred_is a.nodes.now a.wires.now a.obstacles.now a.i)
+    (rw (c.of_wire.ensures.line, c.length_of-end.ensures.0) at c.lowest_free.ensures)

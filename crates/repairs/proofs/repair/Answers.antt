@@ -3,8 +3,7 @@
 use mathlib.Core.Path.{refl, ◌∙◌, ap}
 use native.Mathlib.Omega.{arith}
 use Rattle.laws.specs.Sums.{no_both}
-use Rattle.net.specs.declared.Refusal.{Refusal}
-use Rattle.net.specs.Refusal.{answer}
+use Rattle.net.specs.Refusal.{Verdict, answer}
 use Rattle.net.specs.First.{met-number}
 use Rattle.net.specs.Calls.{call_unmet, call_stage, call_head, call_net}
 use Rattle.repairs.proofs.repair.Goals as goal
@@ -13,7 +12,7 @@ pub returns-then-first-ne0 : goal.returns-then-first-ne0
 returns-then-first-ne0 c =
     let e = c.call_refusal-first.ensures in
     let m = rw e at (met-number c.call_refusal-first.result c.if-first-ne0.true) in
-    record { refused = λ h. (c.answered.ensures ∙ ap (λ (x : Refusal). answer x 0) e, refl); judged = λ h. absurd (no_both m h) }
+    record { refused = λ h. (c.answered.ensures ∙ ap (λ (x : Verdict). answer x 0) e, refl); judged = λ h. absurd (no_both m h) }
 
 pub version-requires : goal.version-requires
 version-requires c =

@@ -8,11 +8,10 @@ use mathlib.Core.List.{List}
 use native.Mathlib.Omega.{arith}
 use lib.ListN.{length}
 use Rattle.laws.specs.Lists.{over}
-use Rattle.net.specs.declared.Refusal.{Refusal}
 use Rattle.net.specs.Net.{node_count}
 use Rattle.net.specs.Layout.{newest, entry_bytes, most_nodes}
 use Rattle.net.specs.Stage.{stage_of}
-use Rattle.net.specs.Refusal.{answer}
+use Rattle.net.specs.Refusal.{Verdict, answer}
 use Rattle.net.specs.Accepted.{NetRight, net-right}
 use Rattle.clusters.specs.FirstPasses.{Clustered}
 use Rattle.clusters.specs.FitsLaws.{wired_of}
@@ -49,7 +48,7 @@ returns-then-find_hopeless c =
     no_legal_set
     (none_of ((c.args.nodes.now)) ((c.args.wires.now)) ((c.args.obstacles.now)) ((c.args.stage)) ((let it : NetRight newest c.args.nodes.now c.args.wires.now c.args.obstacles.now = net-right newest c.args.nodes.now c.args.wires.now c.args.obstacles.now c.requires in it)) ((c.first_passes.new.lo)) ((c.first_passes.new.hi)) ((c.first_passes.new.root)) ((c.first_passes.new.host)) ((c.first_passes.new.component)) ((c.first_passes.new.sourced)) ((c.first_passes.new.fixed)) ((c.first_passes.new.gates)) ((let it : Clustered ((c.args.nodes.now)) ((c.args.wires.now)) ((c.args.obstacles.now)) ((c.args.stage)) ((c.first_passes.new.lo)) ((c.first_passes.new.hi)) ((c.first_passes.new.root)) ((c.first_passes.new.host)) ((c.first_passes.new.component)) ((c.first_passes.new.sourced)) ((c.first_passes.new.fixed)) ((c.first_passes.new.gates)) = c.first_passes.ensures in it)) ((c.args.limit))
     (ap (λ (m : ℕ). any_hopeless m ((c.first_passes.new.fixed)) ((c.first_passes.new.gates)) ((c.args.limit))) (sym ((let it : (c.node_count-n.result) ≡ node_count ((c.args.nodes.now)) = c.node_count-n.ensures in it))) ∙ (sym c.find_hopeless.ensures.0 ∙ c.if-find_hopeless.true)))
-    (c.answered.ensures ∙ ap (λ (x : Refusal). answer x 0) c.refused.ensures) refl
+    (c.answered.ensures ∙ ap (λ (x : Verdict). answer x 0) c.refused.ensures) refl
 
 pub count_pass-points-requires : goal.count_pass-points-requires
 count_pass-points-requires c =
@@ -78,7 +77,7 @@ overflow_mul-needed c = let l = (let it : (c.count_pass-points.result) ≤ 512 =
 pub returns-then-out-needed : goal.returns-then-out-needed
 returns-then-out-needed c =
     let lt = c.if-out-needed.true in
-    judged-short ((let it : (cut_high : List Bool) × Planned (stage_of newest ((c.args.nodes.now)) ((c.args.wires.now)) ((c.args.obstacles.now)) ((c.args.stage))) ((c.args.limit)) ((c.first_passes.new.hi)) ((c.count_pass-points.new.near)) cut_high ((c.count_pass-points.result)) = planned-some ((c.args.nodes.now)) ((c.args.wires.now)) ((c.args.obstacles.now)) ((c.args.stage)) ((let it : NetRight newest c.args.nodes.now c.args.wires.now c.args.obstacles.now = net-right newest c.args.nodes.now c.args.wires.now c.args.obstacles.now c.requires in it)) ((c.first_passes.new.lo)) ((c.first_passes.new.hi)) ((c.first_passes.new.root)) ((c.first_passes.new.host)) ((c.first_passes.new.component)) ((c.first_passes.new.sourced)) ((c.first_passes.new.fixed)) ((c.first_passes.new.gates)) ((let it : Clustered ((c.args.nodes.now)) ((c.args.wires.now)) ((c.args.obstacles.now)) ((c.args.stage)) ((c.first_passes.new.lo)) ((c.first_passes.new.hi)) ((c.first_passes.new.root)) ((c.first_passes.new.host)) ((c.first_passes.new.component)) ((c.first_passes.new.sourced)) ((c.first_passes.new.fixed)) ((c.first_passes.new.gates)) = c.first_passes.ensures in it)) ((c.args.limit)) ((c.count_pass-points.new.cut_any)) ((c.count_pass-points.new.any_ok)) ((c.count_pass-points.new.any_weight)) ((c.count_pass-points.new.has_ungated)) ((c.count_pass-points.new.near)) ((c.count_pass-points.new.fewest)) ((c.count_pass-points.result)) ((let it : CountedAll (node_count ((c.args.nodes.now))) ((c.args.nodes.now)) ((c.args.wires.now)) ((c.args.obstacles.now)) ((c.first_passes.new.lo)) ((c.first_passes.new.hi)) ((c.first_passes.new.host)) ((c.first_passes.new.fixed)) ((c.first_passes.new.gates)) ((c.args.limit)) ((c.count_pass-points.new.cut_any)) ((c.count_pass-points.new.any_ok)) ((c.count_pass-points.new.any_weight)) ((c.count_pass-points.new.has_ungated)) ((c.count_pass-points.new.near)) ((c.count_pass-points.new.fewest)) ((c.count_pass-points.result)) = subst (λ (m : ℕ). CountedAll m ((c.args.nodes.now)) ((c.args.wires.now)) ((c.args.obstacles.now)) ((c.first_passes.new.lo)) ((c.first_passes.new.hi)) ((c.first_passes.new.host)) ((c.first_passes.new.fixed)) ((c.first_passes.new.gates)) ((c.args.limit)) ((c.count_pass-points.new.cut_any)) ((c.count_pass-points.new.any_ok)) ((c.count_pass-points.new.any_weight)) ((c.count_pass-points.new.has_ungated)) ((c.count_pass-points.new.near)) ((c.count_pass-points.new.fewest)) ((c.count_pass-points.result))) ((let it : (c.node_count-n.result) ≡ node_count ((c.args.nodes.now)) = c.node_count-n.ensures in it)) c.count_pass-points.ensures in it)) in it)).1 (omega arith) (c.answered-then-out-needed.ensures ∙ ap (λ (x : Refusal). answer x 0) c.refused-then-out-needed.ensures)
+    judged-short ((let it : (cut_high : List Bool) × Planned (stage_of newest ((c.args.nodes.now)) ((c.args.wires.now)) ((c.args.obstacles.now)) ((c.args.stage))) ((c.args.limit)) ((c.first_passes.new.hi)) ((c.count_pass-points.new.near)) cut_high ((c.count_pass-points.result)) = planned-some ((c.args.nodes.now)) ((c.args.wires.now)) ((c.args.obstacles.now)) ((c.args.stage)) ((let it : NetRight newest c.args.nodes.now c.args.wires.now c.args.obstacles.now = net-right newest c.args.nodes.now c.args.wires.now c.args.obstacles.now c.requires in it)) ((c.first_passes.new.lo)) ((c.first_passes.new.hi)) ((c.first_passes.new.root)) ((c.first_passes.new.host)) ((c.first_passes.new.component)) ((c.first_passes.new.sourced)) ((c.first_passes.new.fixed)) ((c.first_passes.new.gates)) ((let it : Clustered ((c.args.nodes.now)) ((c.args.wires.now)) ((c.args.obstacles.now)) ((c.args.stage)) ((c.first_passes.new.lo)) ((c.first_passes.new.hi)) ((c.first_passes.new.root)) ((c.first_passes.new.host)) ((c.first_passes.new.component)) ((c.first_passes.new.sourced)) ((c.first_passes.new.fixed)) ((c.first_passes.new.gates)) = c.first_passes.ensures in it)) ((c.args.limit)) ((c.count_pass-points.new.cut_any)) ((c.count_pass-points.new.any_ok)) ((c.count_pass-points.new.any_weight)) ((c.count_pass-points.new.has_ungated)) ((c.count_pass-points.new.near)) ((c.count_pass-points.new.fewest)) ((c.count_pass-points.result)) ((let it : CountedAll (node_count ((c.args.nodes.now))) ((c.args.nodes.now)) ((c.args.wires.now)) ((c.args.obstacles.now)) ((c.first_passes.new.lo)) ((c.first_passes.new.hi)) ((c.first_passes.new.host)) ((c.first_passes.new.fixed)) ((c.first_passes.new.gates)) ((c.args.limit)) ((c.count_pass-points.new.cut_any)) ((c.count_pass-points.new.any_ok)) ((c.count_pass-points.new.any_weight)) ((c.count_pass-points.new.has_ungated)) ((c.count_pass-points.new.near)) ((c.count_pass-points.new.fewest)) ((c.count_pass-points.result)) = subst (λ (m : ℕ). CountedAll m ((c.args.nodes.now)) ((c.args.wires.now)) ((c.args.obstacles.now)) ((c.first_passes.new.lo)) ((c.first_passes.new.hi)) ((c.first_passes.new.host)) ((c.first_passes.new.fixed)) ((c.first_passes.new.gates)) ((c.args.limit)) ((c.count_pass-points.new.cut_any)) ((c.count_pass-points.new.any_ok)) ((c.count_pass-points.new.any_weight)) ((c.count_pass-points.new.has_ungated)) ((c.count_pass-points.new.near)) ((c.count_pass-points.new.fewest)) ((c.count_pass-points.result))) ((let it : (c.node_count-n.result) ≡ node_count ((c.args.nodes.now)) = c.node_count-n.ensures in it)) c.count_pass-points.ensures in it)) in it)).1 (omega arith) (c.answered-then-out-needed.ensures ∙ ap (λ (x : Verdict). answer x 0) c.refused-then-out-needed.ensures)
 
 pub slice_bounds-choose-end : goal.slice_bounds-choose-end
 slice_bounds-choose-end c = sym ((let it : length ((c.first_passes.new.lo)) ≡ most_nodes = c.first_passes.auto.lo in it))
@@ -152,5 +151,5 @@ write_list-requires c =
 pub returns : goal.returns
 unfolding stage_of
 returns c =
-    judged-done ((let it : Planned (stage_of newest ((c.args.nodes.now)) ((c.args.wires.now)) ((c.args.obstacles.now)) ((c.args.stage))) ((c.args.limit)) ((c.first_passes.new.hi)) ((c.count_pass-points.new.near)) ((c.choose.new.cut_high)) ((c.count_pass-points.result)) = planned ((c.args.nodes.now)) ((c.args.wires.now)) ((c.args.obstacles.now)) ((c.args.stage)) ((let it : NetRight newest c.args.nodes.now c.args.wires.now c.args.obstacles.now = net-right newest c.args.nodes.now c.args.wires.now c.args.obstacles.now c.requires in it)) ((c.first_passes.new.lo)) ((c.first_passes.new.hi)) ((c.first_passes.new.root)) ((c.first_passes.new.host)) ((c.first_passes.new.component)) ((c.first_passes.new.sourced)) ((c.first_passes.new.fixed)) ((c.first_passes.new.gates)) ((let it : Clustered ((c.args.nodes.now)) ((c.args.wires.now)) ((c.args.obstacles.now)) ((c.args.stage)) ((c.first_passes.new.lo)) ((c.first_passes.new.hi)) ((c.first_passes.new.root)) ((c.first_passes.new.host)) ((c.first_passes.new.component)) ((c.first_passes.new.sourced)) ((c.first_passes.new.fixed)) ((c.first_passes.new.gates)) = c.first_passes.ensures in it)) ((c.args.limit)) ((c.count_pass-points.new.cut_any)) ((c.count_pass-points.new.any_ok)) ((c.count_pass-points.new.any_weight)) ((c.count_pass-points.new.has_ungated)) ((c.count_pass-points.new.near)) ((c.count_pass-points.new.fewest)) ((c.count_pass-points.result)) ((let it : CountedAll (node_count ((c.args.nodes.now))) ((c.args.nodes.now)) ((c.args.wires.now)) ((c.args.obstacles.now)) ((c.first_passes.new.lo)) ((c.first_passes.new.hi)) ((c.first_passes.new.host)) ((c.first_passes.new.fixed)) ((c.first_passes.new.gates)) ((c.args.limit)) ((c.count_pass-points.new.cut_any)) ((c.count_pass-points.new.any_ok)) ((c.count_pass-points.new.any_weight)) ((c.count_pass-points.new.has_ungated)) ((c.count_pass-points.new.near)) ((c.count_pass-points.new.fewest)) ((c.count_pass-points.result)) = subst (λ (m : ℕ). CountedAll m ((c.args.nodes.now)) ((c.args.wires.now)) ((c.args.obstacles.now)) ((c.first_passes.new.lo)) ((c.first_passes.new.hi)) ((c.first_passes.new.host)) ((c.first_passes.new.fixed)) ((c.first_passes.new.gates)) ((c.args.limit)) ((c.count_pass-points.new.cut_any)) ((c.count_pass-points.new.any_ok)) ((c.count_pass-points.new.any_weight)) ((c.count_pass-points.new.has_ungated)) ((c.count_pass-points.new.near)) ((c.count_pass-points.new.fewest)) ((c.count_pass-points.result))) ((let it : (c.node_count-n.result) ≡ node_count ((c.args.nodes.now)) = c.node_count-n.ensures in it)) c.count_pass-points.ensures in it)) c.choose.ensures.0 ((c.choose.new.cut_high)) (λ r p. c.choose.ensures.1 r (omega (arith, (let it : (c.node_count-n.result) ≡ node_count ((c.args.nodes.now)) = c.node_count-n.ensures in it)))) in it)) (omega (arith, c.if-out-needed.false)) (c.answered-2.ensures ∙ ap (λ (x : Refusal). answer x (c.count_pass-points.result)) c.none.ensures)
+    judged-done ((let it : Planned (stage_of newest ((c.args.nodes.now)) ((c.args.wires.now)) ((c.args.obstacles.now)) ((c.args.stage))) ((c.args.limit)) ((c.first_passes.new.hi)) ((c.count_pass-points.new.near)) ((c.choose.new.cut_high)) ((c.count_pass-points.result)) = planned ((c.args.nodes.now)) ((c.args.wires.now)) ((c.args.obstacles.now)) ((c.args.stage)) ((let it : NetRight newest c.args.nodes.now c.args.wires.now c.args.obstacles.now = net-right newest c.args.nodes.now c.args.wires.now c.args.obstacles.now c.requires in it)) ((c.first_passes.new.lo)) ((c.first_passes.new.hi)) ((c.first_passes.new.root)) ((c.first_passes.new.host)) ((c.first_passes.new.component)) ((c.first_passes.new.sourced)) ((c.first_passes.new.fixed)) ((c.first_passes.new.gates)) ((let it : Clustered ((c.args.nodes.now)) ((c.args.wires.now)) ((c.args.obstacles.now)) ((c.args.stage)) ((c.first_passes.new.lo)) ((c.first_passes.new.hi)) ((c.first_passes.new.root)) ((c.first_passes.new.host)) ((c.first_passes.new.component)) ((c.first_passes.new.sourced)) ((c.first_passes.new.fixed)) ((c.first_passes.new.gates)) = c.first_passes.ensures in it)) ((c.args.limit)) ((c.count_pass-points.new.cut_any)) ((c.count_pass-points.new.any_ok)) ((c.count_pass-points.new.any_weight)) ((c.count_pass-points.new.has_ungated)) ((c.count_pass-points.new.near)) ((c.count_pass-points.new.fewest)) ((c.count_pass-points.result)) ((let it : CountedAll (node_count ((c.args.nodes.now))) ((c.args.nodes.now)) ((c.args.wires.now)) ((c.args.obstacles.now)) ((c.first_passes.new.lo)) ((c.first_passes.new.hi)) ((c.first_passes.new.host)) ((c.first_passes.new.fixed)) ((c.first_passes.new.gates)) ((c.args.limit)) ((c.count_pass-points.new.cut_any)) ((c.count_pass-points.new.any_ok)) ((c.count_pass-points.new.any_weight)) ((c.count_pass-points.new.has_ungated)) ((c.count_pass-points.new.near)) ((c.count_pass-points.new.fewest)) ((c.count_pass-points.result)) = subst (λ (m : ℕ). CountedAll m ((c.args.nodes.now)) ((c.args.wires.now)) ((c.args.obstacles.now)) ((c.first_passes.new.lo)) ((c.first_passes.new.hi)) ((c.first_passes.new.host)) ((c.first_passes.new.fixed)) ((c.first_passes.new.gates)) ((c.args.limit)) ((c.count_pass-points.new.cut_any)) ((c.count_pass-points.new.any_ok)) ((c.count_pass-points.new.any_weight)) ((c.count_pass-points.new.has_ungated)) ((c.count_pass-points.new.near)) ((c.count_pass-points.new.fewest)) ((c.count_pass-points.result))) ((let it : (c.node_count-n.result) ≡ node_count ((c.args.nodes.now)) = c.node_count-n.ensures in it)) c.count_pass-points.ensures in it)) c.choose.ensures.0 ((c.choose.new.cut_high)) (λ r p. c.choose.ensures.1 r (omega (arith, (let it : (c.node_count-n.result) ≡ node_count ((c.args.nodes.now)) = c.node_count-n.ensures in it)))) in it)) (omega (arith, c.if-out-needed.false)) (c.answered-2.ensures ∙ ap (λ (x : Verdict). answer x (c.count_pass-points.result)) c.none.ensures)
     (c.write_list.ensures.1 ∙ ap (λ (m : ℕ). over (list_of m ((c.first_passes.new.hi)) ((c.count_pass-points.new.near)) ((c.choose.new.cut_high))) c.args.out.now) ((let it : (c.node_count-n.result) ≡ (stage_of newest ((c.args.nodes.now)) ((c.args.wires.now)) ((c.args.obstacles.now)) ((c.args.stage))).nodes = (let it : (c.node_count-n.result) ≡ node_count ((c.args.nodes.now)) = c.node_count-n.ensures in it) in it)))

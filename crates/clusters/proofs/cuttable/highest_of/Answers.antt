@@ -14,15 +14,16 @@ is_present-requires c = c.requires.0.stored c.args.i c.requires.1
 pub length_of-length-requires : goal.length_of-length-requires
 length_of-length-requires c = (let it : Checked c.args.nodes.now c.args.wires.now c.args.i = let a = c.args in checked c.requires.0 a.i (is_present-positive a.wires.now a.stage a.i ((let it : is_present c.args.wires.now c.args.stage c.args.i ≡ true = sym c.is_present.ensures ∙ c.if-is_present.true in it))) c.requires.1 in it)
 
-pub highest_cuttable-requires : goal.highest_cuttable-requires
-highest_cuttable-requires c = ((let it : Checked c.args.nodes.now c.args.wires.now c.args.i = let a = c.args in checked c.requires.0 a.i (is_present-positive a.wires.now a.stage a.i ((let it : is_present c.args.wires.now c.args.stage c.args.i ≡ true = sym c.is_present.ensures ∙ c.if-is_present.true in it))) c.requires.1 in it), omega (arith, c.length_of-length.ensures.0))
+pub highest_cuttable-highest-requires : goal.highest_cuttable-highest-requires
+highest_cuttable-highest-requires c = ((let it : Checked c.args.nodes.now c.args.wires.now c.args.i = let a = c.args in checked c.requires.0 a.i (is_present-positive a.wires.now a.stage a.i ((let it : is_present c.args.wires.now c.args.stage c.args.i ≡ true = sym c.is_present.ensures ∙ c.if-is_present.true in it))) c.requires.1 in it), omega (arith, c.length_of-length.ensures.0))
 
 pub returns-then-length-gt0 : goal.returns-then-length-gt0
 returns-then-length-gt0 c =
     let a = c.args in
     let e = c.length_of-length.ensures.0 in
-    highest-present a.nodes.now a.wires.now a.obstacles.now a.stage a.i c.requires.1 ((let it : is_present c.args.wires.now c.args.stage c.args.i ≡ true = sym c.is_present.ensures ∙ c.if-is_present.true in it)) c.highest_cuttable.result (omega arith)
-    (rw e at c.highest_cuttable.ensures)
+    rw (c.from.ensures, c.unwrap_or.ensures)
+    (highest-present a.nodes.now a.wires.now a.obstacles.now a.stage a.i c.requires.1 ((let it : is_present c.args.wires.now c.args.stage c.args.i ≡ true = sym c.is_present.ensures ∙ c.if-is_present.true in it)) c.highest_cuttable-highest.result (omega arith)
+    (rw e at c.highest_cuttable-highest.ensures))
 
 pub returns-else-length-gt0 : goal.returns-else-length-gt0
 returns-else-length-gt0 c =

@@ -18,7 +18,8 @@ lowest_cuttable-requires c =
 pub returns-then-is_present : goal.returns-then-is_present
 returns-then-is_present c =
     let a = c.args in
-    lowest-present a.nodes.now a.wires.now a.obstacles.now a.stage a.i c.requires.1 ((let it : is_present c.args.wires.now c.args.stage c.args.i ≡ true = sym c.is_present.ensures ∙ c.if-is_present.true in it)) c.lowest_cuttable.result c.lowest_cuttable.ensures
+    rw (c.from.ensures, c.unwrap_or.ensures)
+    (lowest-present a.nodes.now a.wires.now a.obstacles.now a.stage a.i c.requires.1 ((let it : is_present c.args.wires.now c.args.stage c.args.i ≡ true = sym c.is_present.ensures ∙ c.if-is_present.true in it)) c.lowest_cuttable.result c.lowest_cuttable.ensures)
 
 pub returns : goal.returns
 returns c =

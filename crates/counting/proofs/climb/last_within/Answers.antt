@@ -1,7 +1,8 @@
 -- `counting::climb::last_within` meets its contract: the search begins at the last position that the limit allows, which lies inside the wire.
 -- Assumes nothing.
-use native.Mathlib.Omega.{arith}
+use Rattle.std.proofs.Common.{ℕ, Option, None, Some, IsSome, IsSomeAnd, refl, arith}
 use Rattle.points.specs.Geometry.{length-small}
+use Rattle.counting.specs.Climb.{LastWithin}
 use Rattle.counting.specs.ClimbLaws.{open_high, steps-inside, last_within}
 use Rattle.counting.proofs.climb.last_within.Goals as goal
 
@@ -38,12 +39,20 @@ highest_cuttable-requires c =
     let small = length-small a.nodes.now a.wires.now a.i (λ k. omega (arith, c.type_inv.nodes k)) b.checked in
     (b.checked, rw e (omega arith))
 
+is-some : (P : ℕ → Type 0) (r : Option ℕ) → IsSomeAnd r P → IsSome r
+is-some P None h = absurd h
+is-some P (Some x) h = refl
+
+pub unwrap-requires : goal.unwrap-requires
+unwrap-requires c =
+    let a = c.args in
+    is-some (LastWithin a.nodes.now a.wires.now a.obstacles.now a.i a.lo a.hi a.weight a.limit) _
+    (last_within a.nodes.now a.wires.now a.obstacles.now a.i a.lo a.hi a.weight a.limit _ c.requires.branch c.requires.weight_le_limit.0 c.requires.weight_le_limit.1
+    (rw c.weight_of_step.ensures.0 at c.highest_cuttable.ensures))
+
 pub returns : goal.returns
 returns c =
     let a = c.args in
-    let b = c.requires.branch in
-    let e = c.weight_of_step.ensures.0 in
-    let inside = steps-inside a.nodes.now a.wires.now a.obstacles.now a.i a.lo a.hi a.weight a.limit b c.requires.weight_le_limit.0 c.requires.weight_le_limit.1 in
-    let high = open_high a.nodes.now a.wires.now a.obstacles.now a.i a.hi b.hi_open in
-    let small = length-small a.nodes.now a.wires.now a.i (λ k. omega (arith, c.type_inv.nodes k)) b.checked in
-    last_within a.nodes.now a.wires.now a.obstacles.now a.i a.lo a.hi a.weight a.limit _ b c.requires.weight_le_limit.0 c.requires.weight_le_limit.1 (rw e at c.highest_cuttable.ensures)
+    rw c.from.ensures
+    (last_within a.nodes.now a.wires.now a.obstacles.now a.i a.lo a.hi a.weight a.limit (Some c.unwrap.result) c.requires.branch c.requires.weight_le_limit.0 c.requires.weight_le_limit.1
+    (rw (c.weight_of_step.ensures.0, c.unwrap.ensures) at c.highest_cuttable.ensures))

@@ -5,7 +5,7 @@ use Rattle.lists.specs.EntriesChecked.{entry_not_after, entry_point}
 use Rattle.lists.proofs.check.entry_refusal.Goals as goal
 
 pub returns-then-not-is_after : goal.returns-then-not-is_after
-returns-then-not-is_after c = c.refused.ensures ∙ entry_not_after _ _ _ (sym (c.if-not-is_after.true) ∙ c.is_after.ensures)
+returns-then-not-is_after c = entry_not_after _ _ _ (sym (c.if-not-is_after.true) ∙ c.is_after.ensures)
 
 pub returns : goal.returns
 returns c =

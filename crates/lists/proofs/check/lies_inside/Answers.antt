@@ -1,26 +1,22 @@
 -- `lists::check::lies_inside` meets its contract.
 -- Assumes nothing.
-use mathlib.Core.Path.{sym, ◌∙◌}
 use native.Mathlib.Omega.{arith}
-use Rattle.lists.specs.EntriesChecked.{lies_no_wire, lies_absent, lies_at_node, lies_below, wire-stored, present-checked}
+use Rattle.std.proofs.lemmas.Bool.Decides.{nat_tests}
+use Rattle.lists.specs.EntriesChecked.{WiresChecked, lies_inside, wires-checked, wire-stored}
 use Rattle.lists.proofs.check.lies_inside.Goals as goal
 
-pub returns-then-node_count-i : goal.returns-then-node_count-i
-returns-then-node_count-i c = lies_no_wire _ _ _ _ _ (omega arith)
+pub returns-then-t-gt0 : goal.returns-then-t-gt0
+unfolding lies_inside
+returns-then-t-gt0 c = grind (arith, nat_tests)
+
+pub returns-else-t-gt0 : goal.returns-else-t-gt0
+unfolding lies_inside
+returns-else-t-gt0 c = grind (arith, nat_tests)
 
 pub is_present-requires : goal.is_present-requires
-is_present-requires c = wire-stored _ _ c.requires c.args.i (omega arith)
-
-pub returns-then-not-is_present : goal.returns-then-not-is_present
-returns-then-not-is_present c = lies_absent _ _ _ _ _ (omega arith) (sym c.is_present.ensures ∙ c.if-not-is_present.true)
-
-pub returns-then-t-eq0 : goal.returns-then-t-eq0
-returns-then-t-eq0 c = lies_at_node _ _ _ _ _ (omega arith) (sym c.is_present.ensures ∙ c.if-not-is_present.false) c.if-t-eq0.true
+is_present-requires c = wire-stored _ _ (wires-checked _ _ _ _ c.args.net.accepted) c.args.i (omega arith)
 
 pub length_of-requires : goal.length_of-requires
-length_of-requires c = present-checked _ _ c.requires c.args.i (omega arith) c.args.stage (sym c.is_present.ensures ∙ c.if-not-is_present.false)
-
-pub returns : goal.returns
-returns c =
-    rw c.length_of.ensures.0
-    (lies_below _ _ _ _ _ (omega arith) (sym c.is_present.ensures ∙ c.if-not-is_present.false) (omega arith))
+length_of-requires c =
+    let w : WiresChecked c.args.net.nodes.now c.args.net.wires.now = wires-checked _ _ _ _ c.args.net.accepted in
+    grind (arith, nat_tests, w)

@@ -1,17 +1,11 @@
 -- `lists::check::list_refusal` meets its contract. The invariant: no entry below `e` is refused.
 -- Assumes nothing.
-use Prim.Native.Nat.{◌-◌, ◌≤◌}
 use mathlib.Core.Path.{◌≡◌}
 use Rattle.net.specs.Refusal.{none, first_of}
 use Rattle.net.specs.Stage.{stage_of}
-use Rattle.pieces.specs.JumperList.{entry_count, entry_refusal}
+use Rattle.pieces.specs.JumperList.{entry_refusal}
 use Rattle.lists.proofs.check.list_refusal.Given as goal
 
 abbrev pub invariant-loop-e : goal.invariant-loop-e
 invariant-loop-e l =
-    (l.e ≤ l.count)
-    × (l.count ≡ entry_count l.list)
-    × (none ≡ first_of l.e (λ d. entry_refusal (stage_of l.version l.nodes l.wires l.obstacles l.stage) l.list d))
-
-abbrev pub decreases-loop-e : goal.decreases-loop-e
-decreases-loop-e l = l.count - l.e
+    (none ≡ first_of l.e (λ d. entry_refusal (stage_of l.net.version l.net.nodes.now l.net.wires.now l.net.obstacles.now l.stage) l.list d))

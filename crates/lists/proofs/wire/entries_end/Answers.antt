@@ -26,4 +26,4 @@ loop-end-preserved c =
     )
 
 pub returns : goal.returns
-returns c = let v = c.loop-end.invariant in (v.0, v.1, v.3, λ h e. omega arith)
+returns c = let v = c.loop-end.invariant in (omega arith, omega arith, λ d p l. v.3 d p (omega arith), λ h e. omega arith)

@@ -1,15 +1,8 @@
 -- `net::read::nodes_refusal` meets its contract. The invariant: no node below `i` is refused.
 -- Assumes nothing.
-use Prim.Native.Nat.{◌≤◌, ◌-◌}
-use mathlib.Core.Path.{◌≡◌}
-use Rattle.net.specs.Net.{node_count}
-use Rattle.net.specs.Refusal.{none, first_of, node_refusal}
 use mathlib.Core.Path.{◌≡◌}
 use Rattle.net.specs.Refusal.{none, first_of, node_refusal}
 use Rattle.net.proofs.read.nodes_refusal.Given as goal
 
 abbrev pub invariant-loop-i : goal.invariant-loop-i
-invariant-loop-i l = (l.i ≤ l.count) × (l.count ≡ node_count l.nodes) × (none ≡ first_of l.i (λ j. node_refusal l.nodes j))
-
-abbrev pub decreases-loop-i : goal.decreases-loop-i
-decreases-loop-i l = l.count - l.i
+invariant-loop-i l = none ≡ first_of l.i (λ j. node_refusal l.nodes j)

@@ -1,27 +1,20 @@
--- `net::read::obstacles_refusal` meets its contract. The invariant: no obstacle below `k` is refused.
+-- `net::read::obstacles_refusal` meets its contract.
 -- Assumes nothing.
-use mathlib.Core.Path.{◌∙◌, ap, sym}
 use native.Mathlib.Omega.{arith}
-use Rattle.net.specs.Refusal.{met}
-use Rattle.net.specs.Reading.{obstacle-none}
-use Rattle.net.specs.First.{first-start, first_more, first-here, first-all, met-number, unmet-number}
-use borrow.Author.Rules.{rules}
+use Rattle.std.proofs.lemmas.Result.{err_from_is_err_and}
+use Rattle.net.specs.First.{first-start, first_more, first-here, first-all}
+use Rattle.net.specs.Answered.{met_refusal}
 use Rattle.net.proofs.read.obstacles_refusal.Goals as goal
 
 pub loop-k-init : goal.loop-k-init
-loop-k-init c = (search rules, c.obstacle_count-count.ensures, first-start _)
+loop-k-init c = first-start _
 
-pub returns-then-r-ne0 : goal.returns-then-r-ne0
-returns-then-r-ne0 c = let r = c.obstacle_refusal-r in first-here _ _ _ (omega arith) c.loop-k.invariant.2 r.ensures (met-number r.result c.if-r-ne0.true)
+pub returns-in_err-obstacle_refusal : goal.returns-in_err-obstacle_refusal
+returns-in_err-obstacle_refusal c =
+    let p = err_from_is_err_and c.from_residual.result c.from_residual.ensures.1 in rw (p.1, p.2) (first-here _ _ _ (omega arith) c.loop-k.invariant c.in_err-obstacle_refusal.ensures (met_refusal _))
 
 pub loop-k-preserved : goal.loop-k-preserved
-loop-k-preserved c =
-    let i = c.loop-k.invariant in
-    let r = c.obstacle_refusal-r in (
-      omega arith,
-      i.1,
-      first_more _ _ i.2 (obstacle-none _ _ _ (ap met (sym r.ensures) ∙ unmet-number r.result c.if-r-ne0.false)),
-    )
+loop-k-preserved c = first_more _ _ c.loop-k.invariant c.in_ok-obstacle_refusal.ensures
 
 pub returns : goal.returns
-returns c = c.none.ensures ∙ first-all _ _ _ (omega arith) c.loop-k.invariant.2
+returns c = first-all _ _ _ (omega arith) c.loop-k.invariant

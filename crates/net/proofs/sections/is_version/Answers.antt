@@ -1,13 +1,14 @@
 -- `net::sections::is_version` meets its contract.
 -- Assumes nothing.
-use borrow.Author.Tests.{eq-eqb, ne_eqb}
+use native.Mathlib.Omega.{arith}
+use Rattle.std.proofs.lemmas.Bool.Decides.{nat_tests}
 use Rattle.net.specs.Refusal.{is_version}
 use Rattle.net.proofs.sections.is_version.Goals as goal
 
-pub returns-then-version : goal.returns-then-version
+pub returns-then-version-from : goal.returns-then-version-from
 unfolding is_version
-returns-then-version c = rw (eq-eqb _ _ c.if-version.true)
+returns-then-version-from c = grind (arith, nat_tests)
 
-pub returns : goal.returns
+pub returns-else-version-from : goal.returns-else-version-from
 unfolding is_version
-returns c = rw (ne_eqb _ _ c.if-version.false)
+returns-else-version-from c = grind (arith, nat_tests)

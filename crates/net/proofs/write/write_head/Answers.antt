@@ -17,5 +17,7 @@ returns c =
     let p1 = bytes16 a.version in
     let p2 = bytes16 3 in
     let p3 = pairs_of a.nodes a.wires a.obstacles in
-    let s = over_lent p1 p2 l _ _ 2 c.put16.ensures refl (omega arith) c.put16-2.ensures in
+    let e1 = rw c.to_le_bytes.ensures at c.copy.ensures in
+    let e2 = rw c.to_le_bytes-2.ensures at c.copy-2.ensures in
+    let s = over_lent p1 p2 l _ _ 2 e1 refl (omega arith) e2 in
     over_lent (p1 ++ p2) p3 l _ _ 4 s refl (omega arith) c.put_pairs.ensures

@@ -16,27 +16,27 @@ whole : (factor : ℕ) {n m w : ℕ} → n ≡ m → w ≡ n * factor → w ≡ 
 whole factor e d = d ∙ ap (λ (x : ℕ). x * factor) e
 
 pub slice_bounds-join_record-count : goal.slice_bounds-join_record-count
-slice_bounds-join_record-count c = omega (arith, room_there c.args.places.now c.args.out.now c.wire_parent.ensures c.requires.above)
+slice_bounds-join_record-count c = omega (arith, room_there c.args.places.now c.args.out.now c.wire_at-wire.ensures.parent c.requires.above)
 
 pub slice_bounds-join_record-start : goal.slice_bounds-join_record-start
-slice_bounds-join_record-start c = omega (arith, room_there c.args.places.now c.args.out.now c.wire_parent.ensures c.requires.above)
+slice_bounds-join_record-start c = omega (arith, room_there c.args.places.now c.args.out.now c.wire_at-wire.ensures.parent c.requires.above)
 
 pub join_record-requires : goal.join_record-requires
 join_record-requires c =
     let a = c.args in
-    let above = get_or a.places.now c.wire_parent.result 0 in (
-      part-long above record_bytes a.out.now (room_there a.places.now a.out.now c.wire_parent.ensures c.requires.above),
-      part_record above _ a.out.now (same_place a.places.now c.wire_parent.ensures) c.requires.stands,
-      c.weight_of-weight.ensures.1 c.length_of-len.ensures.1,
-      omega (arith, c.node_flags.ensures, c.requires.flags),
+    let above = get_or a.places.now c.wire_at-wire.result.parent 0 in (
+      part-long above record_bytes a.out.now (room_there a.places.now a.out.now c.wire_at-wire.ensures.parent c.requires.above),
+      part_record above _ a.out.now (same_place a.places.now c.wire_at-wire.ensures.parent) c.requires.stands,
+      c.weight_of.ensures.1 c.length_of-len.ensures.1,
+      omega (arith, c.node_at.ensures.flags, c.requires.flags),
     )
 
 pub returns : goal.returns
 returns c =
     let a = c.args in
-    let above = same_place a.places.now c.wire_parent.ensures in (
+    let above = same_place a.places.now c.wire_at-wire.ensures.parent in (
       ap (set a.places.now a.i) above,
-      placed-joined a.limit (get_or a.places.now c.wire_parent.result 0) c.weight_of-weight.result c.node_flags.result c.layers_of-layers.result _ _ _ _ a.out.now c.join_record.new.rest above
-          (whole (wire_factor a.wires.now a.i) c.length_of-len.ensures.0 (rw c.wire_factor.ensures at c.weight_of-weight.ensures.0)) c.node_flags.ensures
-          (rw (c.length_of-len.ensures.0, c.wire_layer.ensures) at c.layers_of-layers.ensures) c.join_record.ensures,
+      placed-joined a.limit (get_or a.places.now c.wire_at-wire.result.parent 0) c.weight_of.result c.node_at.result.flags c.layers_of.result _ _ _ _ a.out.now c.join_record.new.rest above
+          (whole (wire_factor a.wires.now a.i) c.length_of-len.ensures.0 (rw c.wire_at-wire.ensures.factor at c.weight_of.ensures.0)) c.node_at.ensures.flags
+          (rw (c.length_of-len.ensures.0, c.wire_at-wire.ensures.layer) at c.layers_of.ensures) c.join_record.ensures,
     )

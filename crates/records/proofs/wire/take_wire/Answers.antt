@@ -39,7 +39,7 @@ start_piece-requires c =
     let h = r.i_bound.0 in (
       node-small a.nodes.now a.wires.now a.jumpers.now a.stage r.list_accepted a.i h,
       omega (arith, h, r.nodes_in_bounds.0),
-      omega (arith, c.node_flags.ensures, r.list_accepted.2.right.flags a.i h),
+      omega (arith, c.node_at.ensures.flags, r.list_accepted.2.right.flags a.i h),
       absent-room here (sym c.is_present.ensures ∙ c.if-not-is_present.true),
     )
 
@@ -52,7 +52,7 @@ returns-then-not-is_present c =
     r.i_bound.0 r.nodes_in_bounds.0 r.nodes_in_bounds.1 r.held_below (λ n. omega (arith, c.type_inv.nodes n)) (λ n. omega (arith, c.type_inv.wires n)) in
     let e = c.start_piece.ensures in
     taken_wire r.list_accepted
-    (λ v os j. taken_absent (all v os j) (sym c.is_present.ensures ∙ c.if-not-is_present.true) c.node_flags.result c.start_piece.result c.node_flags.ensures e.0 e.1 e.2)
+    (λ v os j. taken_absent (all v os j) (sym c.is_present.ensures ∙ c.if-not-is_present.true) c.node_at.result.flags c.start_piece.result c.node_at.ensures.flags e.0 e.1 e.2)
 
 pub join_wire-requires : goal.join_wire-requires
 join_wire-requires c =

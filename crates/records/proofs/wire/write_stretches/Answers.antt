@@ -16,7 +16,7 @@ loop-d-init c =
     record {
       inside = omega arith;
       next = omega arith;
-      written = rw (z, stretches-none a.jumpers.now a.i a.factor a.layer e) (place_none {A = ℕ} a.at a.out.now);
+      written = rw (z, stretches-none a.jumpers.now a.i a.wire.factor a.wire.layer e) (place_none {A = ℕ} a.at a.out.now);
       long = refl;
     }
 
@@ -45,16 +45,16 @@ loop-d-preserved c =
     let behind : c.loop-d.d + 1 - e - 1 ≡ d + 1 - e = omega arith in
     let room : next + record_bytes ≤ length a.out.now = omega arith in
     let written =
-    placed-stretch a.jumpers.now a.i a.factor a.layer e d a.at next (length out - next) a.out.now out c.write.new.rest
+    placed-stretch a.jumpers.now a.i a.wire.factor a.wire.layer e d a.at next (length out - next) a.out.now out c.write.new.rest
     c.entry_position-from.result c.entry_position.result c.mask_of.result c.entry_position-from.ensures
     (c.entry_position.ensures ∙ ap (entry_position a.jumpers.now) (sym this)) c.mask_of.ensures (omega arith) (omega arith) (rw before at v.written) room
     (omega arith) (rw c.weight_of.ensures.0 at c.write.ensures) in
-    let n = stretches-length a.jumpers.now a.i a.factor a.layer e (d + 1 - e) in
+    let n = stretches-length a.jumpers.now a.i a.wire.factor a.wire.layer e (d + 1 - e) in
     record {
       inside = omega arith;
       next = omega arith;
       written = rw behind written;
-      long = ap length written ∙ place-length a.at (stretches_fields a.jumpers.now a.i a.factor a.layer e (d + 1 - e)) a.out.now (omega arith);
+      long = ap length written ∙ place-length a.at (stretches_fields a.jumpers.now a.i a.wire.factor a.wire.layer e (d + 1 - e)) a.out.now (omega arith);
     }
 
 pub shape_of-out : goal.shape_of-out

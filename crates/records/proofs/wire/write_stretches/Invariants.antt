@@ -12,6 +12,6 @@ invariant-loop-d l =
     record {
       inside : l.d - e - 1 ≤ l.d-end - e - 1;
       next : l.next ≡ l.at + record_bytes * (l.d - e - 1);
-      written : l.out ≡ place l.at (stretches_fields l.jumpers l.i l.factor l.layer e (l.d - e - 1)) l.initial.out;
+      written : l.out ≡ place l.at (stretches_fields l.jumpers l.i l.wire.factor l.wire.layer e (l.d - e - 1)) l.initial.out;
       long : length l.out ≡ length l.initial.out;
     }

@@ -1,0 +1,44 @@
+-- `net::read::net_of` meets its contract.
+-- Assumes nothing.
+use Rattle.std.proofs.lemmas.Result.{err_from_is_err_and}
+use mathlib.Core.Path.{◌∙◌, ap, sym, refl}
+use Rattle.net.specs.Refusal.{none, met}
+use Rattle.net.specs.Accepted.{head_right_of}
+use Rattle.net.specs.Answered.{met_refusal}
+use Rattle.net.specs.Reading.{read_head, read_net, section_stretch}
+use Rattle.net.proofs.read.net_of.Goals as goal
+
+pub returns-in_err-head_and_pairs_refusal-clause-verdict : goal.returns-in_err-head_and_pairs_refusal-clause-verdict
+returns-in_err-head_and_pairs_refusal-clause-verdict c =
+    let p = err_from_is_err_and c.from_residual.result c.from_residual.ensures.1 in rw (p.1, p.2) (read_head _ _ c.in_err-head_and_pairs_refusal.ensures (met_refusal _))
+
+pub version-version-requires : goal.version-version-requires
+version-version-requires c = (head_right_of _ (sym (ap met c.in_ok-head_and_pairs_refusal.ensures))).long
+
+pub stretch-nodes-requires : goal.stretch-nodes-requires
+stretch-nodes-requires c = sym (ap met c.in_ok-head_and_pairs_refusal.ensures)
+
+pub stretch-wires-requires : goal.stretch-wires-requires
+stretch-wires-requires c = sym (ap met c.in_ok-head_and_pairs_refusal.ensures)
+
+pub stretch-obstacles-requires : goal.stretch-obstacles-requires
+stretch-obstacles-requires c = sym (ap met c.in_ok-head_and_pairs_refusal.ensures)
+
+pub returns-in_err-net_refusal-clause-verdict : goal.returns-in_err-net_refusal-clause-verdict
+returns-in_err-net_refusal-clause-verdict c =
+    let p = err_from_is_err_and c.from_residual-in_err-net_refusal.result c.from_residual-in_err-net_refusal.ensures.1 in rw (p.1, p.2) (read_net _ _ none c.in_ok-head_and_pairs_refusal.ensures refl
+    (rw (← c.version-version.ensures, ← c.stretch-nodes.ensures, ← c.stretch-wires.ensures, ← c.stretch-obstacles.ensures) c.in_err-net_refusal.ensures))
+
+pub returns-clause-verdict : goal.returns-clause-verdict
+returns-clause-verdict c =
+    read_net _ _ none c.in_ok-head_and_pairs_refusal.ensures refl
+    (rw (← c.version-version.ensures, ← c.stretch-nodes.ensures, ← c.stretch-wires.ensures, ← c.stretch-obstacles.ensures) c.in_ok-net_refusal.ensures)
+
+pub returns-clause-net : goal.returns-clause-net
+returns-clause-net c =
+    let m = sym (ap met c.in_ok-head_and_pairs_refusal.ensures) in (
+      c.version-version.ensures,
+      c.stretch-nodes.ensures ∙ section_stretch _ _ m,
+      c.stretch-wires.ensures ∙ section_stretch _ _ m,
+      c.stretch-obstacles.ensures ∙ section_stretch _ _ m,
+    )

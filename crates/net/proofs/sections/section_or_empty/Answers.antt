@@ -1,0 +1,16 @@
+-- `net::sections::section_or_empty` meets its contract.
+-- Assumes nothing.
+use mathlib.Core.Path.{◌∙◌, ap, sym}
+use Rattle.net.specs.Refusal.{met}
+use Rattle.net.specs.Answered.{met_refusal}
+use Rattle.net.specs.Reading.{section_empty, section_stretch}
+use Rattle.net.proofs.sections.section_or_empty.Goals as goal
+
+pub stretch-requires : goal.stretch-requires
+stretch-requires c = sym (ap met c.in-Ok.ensures)
+
+pub returns-in-Ok : goal.returns-in-Ok
+returns-in-Ok c = c.stretch.ensures ∙ section_stretch _ _ (sym (ap met c.in-Ok.ensures))
+
+pub returns-in-Err : goal.returns-in-Err
+returns-in-Err c = section_empty _ _ (sym (ap met c.in-Err.ensures) ∙ met_refusal _)

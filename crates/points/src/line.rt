@@ -1,0 +1,126 @@
+// The line of a wire: how its points go on from its node.
+ghost use Rattle.std.specs.Prelude.{◌≡◌, ℕ, ◌≤◌};
+ghost use Rattle.net.specs.Net.{wire_length};
+ghost use Rattle.points.specs.Cuttable.{Checked, LastBelow, FirstAbove};
+ghost use Rattle.points.specs.Geometry.{heading, stepped, last_below, first_above, Reach};
+ghost use Rattle.points.specs.Lines.{line_of, Reaches, point_on, covers};
+
+use net::fields::{Obstacle, node_at, wire_at};
+use std::cmp::Ordering;
+
+// A point of the grid.
+#[derive(Clone, Copy, Debug, PartialEq, Eq)]
+pub struct Point {
+    pub x: u16,
+    pub y: u16,
+}
+
+// A line on one axis: the coordinate where it begins, and how that compares with the one where it ends.
+#[derive(Clone, Copy, Debug, PartialEq, Eq)]
+pub(crate) struct Axis {
+    pub(crate) from: u16,
+    pub(crate) heading: Ordering,
+}
+
+// The line of a wire in its layer.
+#[derive(Clone, Copy, Debug, PartialEq, Eq)]
+pub(crate) struct Line {
+    pub(crate) layer: u8,
+    pub(crate) x: Axis,
+    pub(crate) y: Axis,
+}
+
+impl Axis {
+    pub(crate) fn toward(from: u16, to: u16) -> Axis
+        ensures { result ≡ record { from = from; heading = heading from to } }
+    {
+        Axis {
+            from,
+            heading: from.cmp(&to),
+        }
+    }
+
+    // The coordinate t steps on.
+    pub(crate) fn at(self, t: u32) -> u16
+        requires { Reach self.from self.heading t }
+        ensures { result ≡ stepped self.from self.heading t }
+    {
+        match self.heading {
+            Ordering::Less => self.from + t as u16,
+            Ordering::Equal => self.from,
+            Ordering::Greater => self.from - t as u16,
+        }
+    }
+
+    // The last position below those whose coordinate is one of low to high.
+    pub(crate) fn last_below(self, low: u16, high: u16) -> u32
+        ensures { result ≡ last_below self.from self.heading low high }
+    {
+        let past = match self.heading {
+            Ordering::Less => low.saturating_sub(self.from),
+            Ordering::Equal => 0,
+            Ordering::Greater => self.from.saturating_sub(high),
+        };
+        u32::from(past.saturating_sub(1))
+    }
+
+    // The first position above them, `end` where every coordinate is one of them.
+    pub(crate) fn first_above(self, low: u16, high: u16, end: u32) -> u32
+        ensures { result ≡ first_above self.from self.heading low high end }
+    {
+        let last = match self.heading {
+            Ordering::Less => high.saturating_sub(self.from),
+            Ordering::Equal => return end,
+            Ordering::Greater => self.from.saturating_sub(low),
+        };
+        u32::from(last) + 1
+    }
+}
+
+impl Line {
+    // The line of wire i.
+    pub(crate) fn of_wire(nodes: &[u8], wires: &[u8], i: usize) -> Line
+        requires { Checked nodes.now wires.now i }
+        ensures line { result ≡ line_of nodes.now wires.now i }
+        ensures reaches { (t : ℕ) → t ≤ wire_length nodes.now wires.now i → Reaches result t }
+    {
+        let wire = wire_at(wires, i);
+        let from = node_at(nodes, i);
+        let to = node_at(nodes, wire.parent);
+        Line {
+            layer: wire.layer,
+            x: Axis::toward(from.x, to.x),
+            y: Axis::toward(from.y, to.y),
+        }
+    }
+
+    // The point at position t.
+    pub(crate) fn at(self, t: u32) -> Point
+        requires { Reaches self t }
+        ensures { result ≡ point_on self t }
+    {
+        Point {
+            x: self.x.at(t),
+            y: self.y.at(t),
+        }
+    }
+
+    // The last position below the stretch that an obstacle holds.
+    pub(crate) fn last_below(self, o: Obstacle) -> u32
+        ensures { LastBelow (λ t. covers o (point_on self t)) result }
+    {
+        self.x
+            .last_below(o.x1, o.x2)
+            .max(self.y.last_below(o.y1, o.y2))
+    }
+
+    // The first position above it, `end` where the obstacle holds them all.
+    pub(crate) fn first_above(self, o: Obstacle, end: u32) -> u32
+        requires { Reaches self end }
+        ensures { FirstAbove (λ t. covers o (point_on self t)) end result }
+    {
+        self.x
+            .first_above(o.x1, o.x2, end)
+            .min(self.y.first_above(o.y1, o.y2, end))
+    }
+}
