@@ -12,7 +12,7 @@ ghost use Rattle.records.specs.Reached.{Reached};
 
 use lists::entries::entry_position;
 use lists::wire::entries_end;
-use net::fields::{is_present, node_count, node_flags, wire_factor, wire_layer, wire_parent};
+use net::fields::{Wire, is_present, node_at, node_count, wire_at};
 use points::length_of;
 use records::wire::{layers_of, weight_of};
 
@@ -44,16 +44,16 @@ fn name_node(pieces: &mut [Piece], i: usize, h: usize, of_node: u8)
 }
 
 // Some steps of a wire are in the piece whose lowest node is h.
-fn add_steps(pieces: &mut [Piece], h: usize, steps: u32, factor: u8, layer: u8)
+fn add_steps(pieces: &mut [Piece], h: usize, steps: u32, wire: Wire)
     requires h_in_bounds { h < length pieces.old }
-    requires le_layer { (1 ≤ layer) × (layer ≤ most_layers) }
+    requires le_layer { (1 ≤ wire.layer) × (wire.layer ≤ most_layers) }
     requires steps_in_bounds { (steps < length_bound) × (get_or (weight pieces.old) h 0 + wire_weight_bound ≤ 2 ^ 64) }
-    ensures added { Added (weight pieces.old) (layers pieces.old) (weight pieces.new) (layers pieces.new) h steps factor layer }
+    ensures added { Added (weight pieces.old) (layers pieces.old) (weight pieces.new) (layers pieces.new) h steps wire.factor wire.layer }
     ensures kept { (lowest pieces.new ≡ lowest pieces.old) × (flags pieces.new ≡ flags pieces.old) }
 {
     let piece = &mut pieces[h];
-    piece.weight += weight_of(steps, factor);
-    piece.layers |= layers_of(steps, layer);
+    piece.weight += weight_of(steps, wire.factor);
+    piece.layers |= layers_of(steps, wire.layer);
 }
 
 // A wire without a jumper: its steps and node i are in its parent's piece.
@@ -62,12 +62,11 @@ fn join_wire(nodes: &[u8], wires: &[u8], i: usize, pieces: &mut [Piece])
     ensures { Joined nodes.now wires.now i pieces.old pieces.new
         × AtMost ((i + 1) * (2 * wire_weight_bound)) (weight pieces.new) }
 {
-    let above = pieces[wire_parent(wires, i)].lowest;
+    let wire = wire_at(wires, i);
+    let above = pieces[wire.parent].lowest;
     let len = length_of(nodes, wires, i);
-    let factor = wire_factor(wires, i);
-    let layer = wire_layer(wires, i);
-    name_node(pieces, i, above, node_flags(nodes, i));
-    add_steps(pieces, above, len, factor, layer);
+    name_node(pieces, i, above, node_at(nodes, i).flags);
+    add_steps(pieces, above, len, wire);
 }
 
 // A wire with jumpers: the steps below the first are in node i's piece, those above the last in its parent's.
@@ -77,13 +76,12 @@ fn part_wire(nodes: &[u8], wires: &[u8], i: usize, first: u32, last: u32, pieces
     ensures { Parted nodes.now wires.now i first last pieces.old pieces.new
         × AtMost ((i + 1) * (2 * wire_weight_bound)) (weight pieces.new) }
 {
-    let above = pieces[wire_parent(wires, i)].lowest;
+    let wire = wire_at(wires, i);
+    let above = pieces[wire.parent].lowest;
     let len = length_of(nodes, wires, i);
-    let factor = wire_factor(wires, i);
-    let layer = wire_layer(wires, i);
-    name_node(pieces, i, i, node_flags(nodes, i));
-    add_steps(pieces, i, first, factor, layer);
-    add_steps(pieces, above, len - last, factor, layer);
+    name_node(pieces, i, i, node_at(nodes, i).flags);
+    add_steps(pieces, i, first, wire);
+    add_steps(pieces, above, len - last, wire);
 }
 
 // Node i with its wire, whose entries in the list begin at entry e: where they end.
@@ -105,7 +103,7 @@ fn gather_wire(
 {
     let end = entries_end(jumpers, i, e);
     if !is_present(stage, wires, i) {
-        name_node(pieces, i, i, node_flags(nodes, i));
+        name_node(pieces, i, i, node_at(nodes, i).flags);
         return end;
     }
     if e == end {

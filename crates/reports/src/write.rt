@@ -16,7 +16,7 @@ ghost use Rattle.reports.specs.ListRights.{WireEntries};
 
 use crate::gather::Piece;
 use lists::wire::entries_end;
-use net::fields::{is_present, node_count, wire_factor, wire_layer};
+use net::fields::{is_present, node_count, wire_at};
 use net::layout::RECORD_BYTES;
 use records::record::Record;
 use records::wire::write_stretches;
@@ -55,15 +55,7 @@ fn write_wire_records(
     if !is_present(stage, wires, i) {
         return at;
     }
-    write_stretches(
-        jumpers,
-        i,
-        entries,
-        wire_factor(wires, i),
-        wire_layer(wires, i),
-        out,
-        at,
-    )
+    write_stretches(jumpers, i, entries, wire_at(wires, i), out, at)
 }
 
 // The records of all pieces, from what gathering found.

@@ -22,7 +22,7 @@ is_present-requires c =
 
 pub returns-then-not-is_present : goal.returns-then-not-is_present
 returns-then-not-is_present c =
-    let flags = c.node_flags in
+    let node = c.node_at in
     let a = c.args in
     let n = c.entries_end-end.ensures in
     let w = reached_wire a.nodes.now a.wires.now a.jumpers.now a.stage c.requires.list_accepted a.i a.e c.entries_end-end.result c.requires.i_bound.1 n.0 n.1 n.2 n.3 in
@@ -31,7 +31,7 @@ returns-then-not-is_present c =
       rw c.name_node.ensures.kept.0 (at_more (a.i * (2 * wire_weight_bound)) ((a.i + 1) * (2 * wire_weight_bound)) (weight a.pieces.now) (omega arith) c.requires.roomy.1),
       λ v os j.
           step-absent v a.nodes.now a.wires.now a.jumpers.now os a.stage j a.i c.requires.i_bound.0 (c.requires.gathered_below v os j)
-          flags.result flags.ensures absent c.name_node.ensures.named c.name_node.ensures.kept.0 c.name_node.ensures.kept.1,
+          node.result.flags node.ensures.flags absent c.name_node.ensures.named c.name_node.ensures.kept.0 c.name_node.ensures.kept.1,
     )
 
 pub join_wire-requires : goal.join_wire-requires

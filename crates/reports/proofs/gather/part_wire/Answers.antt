@@ -22,7 +22,7 @@ add_steps-requires c =
     let kept = ap (λ l. get_or l c.args.i 0) c.name_node.ensures.kept.0 in
     record {
       h_in_bounds = omega arith;
-      le_layer = (omega (arith, c.wire_layer-layer.ensures, r.low), omega (arith, c.wire_layer-layer.ensures, r.high));
+      le_layer = (omega (arith, c.wire_at-wire.ensures.layer, r.low), omega (arith, c.wire_at-wire.ensures.layer, r.high));
       steps_in_bounds = (omega (arith, c.requires.first_bound.0, len.ensures.0, len.ensures.1), omega (arith, r.small));
     }
 
@@ -33,39 +33,38 @@ pub add_steps-requires-2 : goal.add_steps-requires-2
 add_steps-requires-2 c =
     let a = c.args in
     let r = c.requires.wire_ready in
-    let above = lowest-at a.pieces.now c.wire_parent.ensures in
+    let above = lowest-at a.pieces.now c.wire_at-wire.ensures.parent in
     let len = c.length_of-len in
     let node = c.name_node.ensures in
     let between =
-    added-small (a.i * (2 * wire_weight_bound)) a.i a.first c.wire_factor-factor.result c.wire_layer-layer.result r.light (rw (node.kept.0, node.kept.1) at c.add_steps.ensures.added)
+    added-small (a.i * (2 * wire_weight_bound)) a.i a.first c.wire_at-wire.result.factor c.wire_at-wire.result.layer r.light (rw (node.kept.0, node.kept.1) at c.add_steps.ensures.added)
     (omega (arith, c.requires.first_bound.0, len.ensures.0, len.ensures.1)) (omega arith) in
     let most = between (get_or (lowest a.pieces.now) (wire_parent a.wires.now a.i) 0) in
     record {
       h_in_bounds = rw above (omega (arith, r.above, r.room));
-      le_layer = (omega (arith, c.wire_layer-layer.ensures, r.low), omega (arith, c.wire_layer-layer.ensures, r.high));
+      le_layer = (omega (arith, c.wire_at-wire.ensures.layer, r.low), omega (arith, c.wire_at-wire.ensures.layer, r.high));
       steps_in_bounds = (omega (arith, len.ensures.1), rw above (omega (arith, r.small)));
     }
 
 pub returns : goal.returns
 returns c =
     let a = c.args in
-    let above = lowest-at a.pieces.now c.wire_parent.ensures in
+    let above = lowest-at a.pieces.now c.wire_at-wire.ensures.parent in
     let len = c.length_of-len in
-    let factor = c.wire_factor-factor in
-    let layer = c.wire_layer-layer in
+    let wire = c.wire_at-wire in
     let node = c.name_node.ensures in
     let below = rw (node.kept.0, node.kept.1) at c.add_steps.ensures.added in
     let steps = c.add_steps-2.ensures in
     let between =
-    added-small (a.i * (2 * wire_weight_bound)) a.i a.first factor.result layer.result c.requires.wire_ready.light below
+    added-small (a.i * (2 * wire_weight_bound)) a.i a.first wire.result.factor wire.result.layer c.requires.wire_ready.light below
     (omega (arith, c.requires.first_bound.0, len.ensures.0, len.ensures.1)) (omega arith) in (
       record {
-        named = rw (steps.kept.0, steps.kept.1, c.add_steps.ensures.kept.0, c.add_steps.ensures.kept.1) (rw c.node_flags.ensures at node.named);
+        named = rw (steps.kept.0, steps.kept.1, c.add_steps.ensures.kept.0, c.add_steps.ensures.kept.1) (rw c.node_at.ensures.flags at node.named);
         w₁ = weight c.add_steps.new.pieces;
         l₁ = layers c.add_steps.new.pieces;
-        below = added-at refl refl factor.ensures layer.ensures below;
-        above = added-at above (ap (λ (x : ℕ). x - a.last) len.ensures.0) factor.ensures layer.ensures steps.added;
+        below = added-at refl refl wire.ensures.factor wire.ensures.layer below;
+        above = added-at above (ap (λ (x : ℕ). x - a.last) len.ensures.0) wire.ensures.factor wire.ensures.layer steps.added;
       },
       at_more (a.i * (2 * wire_weight_bound) + wire_weight_bound + wire_weight_bound) ((a.i + 1) * (2 * wire_weight_bound)) (weight c.add_steps-2.new.pieces) (omega arith)
-          (added-small (a.i * (2 * wire_weight_bound) + wire_weight_bound) _ (len.result - a.last) factor.result layer.result between steps.added (omega (arith, len.ensures.1)) (omega arith)),
+          (added-small (a.i * (2 * wire_weight_bound) + wire_weight_bound) _ (len.result - a.last) wire.result.factor wire.result.layer between steps.added (omega (arith, len.ensures.1)) (omega arith)),
     )
