@@ -1,6 +1,6 @@
 -- Lengths of entries, and one wire more, as the list's writer goes through the wires.
 -- Assumes nothing.
-use Rattle.std.specs.Prelude.{ℕ, ◌+◌, ◌*◌, ◌≤◌, ◌<◌, ◌≡◌, refl, Bool, true, false, List, ◌++◌, length, get_or, ltb}
+use Rattle.std.specs.Prelude.{ℕ, ◌+◌, ◌*◌, ◌≤◌, ◌<◌, ◌≡◌, refl, Bool, true, false, List, [], ◌++◌, length, get_or, ltb}
 use Rattle.std.proofs.Common.{◌∙◌, arith, add-one, length-append}
 use Rattle.laws.specs.Sum.{χ}
 use Rattle.laws.specs.Sums.{sum_ap, sum-mul, sum-next, sum_next-≤}
@@ -38,3 +38,8 @@ module _ (hi near : List ℕ) (cut_high : List Bool) where
   -- there is room for it
   pub count_of-room : (r n : ℕ) → r < n → count_of r near cut_high + wire_count (get_or near r 0) (get_or cut_high r false) ≤ count_of n near cut_high
   count_of-room r n p = sum_next-≤ r n (λ i. wire_count (get_or near i 0) (get_or cut_high i false)) p
+
+-- behind the entries of the wires below r there is room for those of wire r
+pub room_at : (near : List ℕ) (cut_high : List Bool) (n r count size : ℕ) → r < n → count ≡ count_of r near cut_high → entry_bytes * count_of n near cut_high ≤ size
+    → entry_bytes * count + entry_bytes * wire_count (get_or near r 0) (get_or cut_high r false) ≤ size
+room_at near cut_high n r count size p e h = omega (arith, count_of-room [] near cut_high r n p)

@@ -2,7 +2,7 @@
 ghost use Rattle.std.specs.Prelude.{◌≡◌, ◌<◌};
 ghost use Rattle.net.specs.Net.{wire_length};
 ghost use Rattle.net.specs.Numbers.{checked};
-ghost use Rattle.net.specs.NetStage.{stage_of_net};
+ghost use Rattle.net.specs.AcceptedNet.{stage_of_net};
 ghost use Rattle.points.specs.Cuttable.{Checked};
 ghost use Rattle.pieces.specs.JumperList.{list_refusal};
 ghost use Rattle.lists.specs.EntriesByWire.{present_length, position_refusal};

@@ -1,7 +1,7 @@
 // Refusals 12 to 14: on a whole list, and 13 and 14 on one point.
 ghost use Rattle.std.specs.Prelude.{◌≡◌, ◌||◌, ◌-◌, ◌<◌, eqb};
 ghost use Rattle.net.specs.Numbers.{checked};
-ghost use Rattle.net.specs.NetStage.{stage_of_net};
+ghost use Rattle.net.specs.AcceptedNet.{stage_of_net};
 ghost use Rattle.pieces.specs.Legal.{after};
 ghost use Rattle.pieces.specs.JumperList.{entry_count, point_refusal, entry_refusal, list_refusal};
 ghost use Rattle.lists.specs.EntriesChecked.{lies_inside};

@@ -6,7 +6,7 @@ pub mod Formed
 pub mod Refusal
 pub mod Numbers
 pub mod Call
-pub mod NetStage
+pub mod AcceptedNet
 pub mod Sections
 pub mod File
 pub mod Versions

@@ -3,23 +3,17 @@ ghost use Rattle.std.specs.Prelude.{◌≡◌, ◌+◌, ◌-◌, ◌*◌, ◌<�
 ghost use Rattle.net.specs.Layout.{wire_bytes};
 ghost use Rattle.net.specs.Net.{node_count, obstacle_count};
 ghost use Rattle.net.specs.Numbers.{checked, answered};
-ghost use Rattle.net.specs.File.{version_of};
-ghost use Rattle.net.specs.Refusal.{nodes_of, wires_of, obstacles_of, read_answer, read_refusal, net_refusal, first_of, sections_refusal, node_refusal, wire_refusal, obstacle_refusal};
+ghost use Rattle.net.specs.AcceptedNet.{IsNetOf};
+ghost use Rattle.net.specs.Refusal.{read_answer, read_refusal, net_refusal, first_of, sections_refusal, node_refusal, wire_refusal, obstacle_refusal};
 
+use crate::Net;
 use crate::fields::{node_at, node_count, obstacle_at, obstacle_bytes, obstacle_count, wire_at};
 use crate::layout::{MOST_FLAGS, MOST_LAYERS, MOST_NODES, MOST_OBSTACLES, NODE_BYTES, WIRE_BYTES};
 use crate::refusal::Refusal;
 use crate::sections::{Section, head_and_pairs_refusal, stretch, version};
-use crate::{Answer, Net};
 
 // Accepted with the count of its nodes, or the first of 2 to 11 and 20 that the file meets.
-pub fn read(file: &[u8]) -> Answer
-    ensures { result ≡ read_answer file.now }
-{
-    count_nodes(file).into()
-}
-
-fn count_nodes(file: &[u8]) -> Result<u64, Refusal>
+pub fn read(file: &[u8]) -> Result<u64, Refusal>
     ensures { answered result ≡ read_answer file.now }
 {
     let net = net_of(file)?;
@@ -29,7 +23,7 @@ fn count_nodes(file: &[u8]) -> Result<u64, Refusal>
 // The net of a file, or the first of 2 to 11 and 20.
 pub fn net_of(file: &[u8]) -> Result<Net<'_>, Refusal>
     ensures verdict { checked result ≡ read_refusal file.now }
-    ensures net { IfOk result (λ net. (net.version ≡ version_of file.now) × (net.nodes.now ≡ nodes_of file.now) × (net.wires.now ≡ wires_of file.now) × (net.obstacles.now ≡ obstacles_of file.now)) }
+    ensures net { IfOk result (IsNetOf file.now) }
 {
     head_and_pairs_refusal(file)?;
     let version = version(file);

@@ -8,21 +8,13 @@ ghost use Rattle.net.specs.Writing.{pairs_of};
 ghost use Rattle.net.specs.Numbers.{answered};
 ghost use Rattle.net.specs.Refusal.{write_answer, write_buffer};
 
-use crate::Answer;
 use crate::layout::{HEAD_BYTES, LENGTH_AT, PAIR_BYTES, PAIR_COUNT, PAIR_COUNT_AT, PAIRS_AT};
 use crate::read::net_refusal;
 use crate::refusal::Refusal;
 use crate::sections::is_version;
 
-// The file at the start of out, or the first of 2, 4 to 11, 20 and 16, with out as it was.
-pub fn write(version: u32, nodes: &[u8], wires: &[u8], obstacles: &[u8], out: &mut [u8]) -> Answer
-    ensures { (result ≡ write_answer version nodes.now wires.now obstacles.now (length out.old)) × (out.new ≡ write_buffer version nodes.now wires.now obstacles.now out.old) }
-{
-    write_checked(version, nodes, wires, obstacles, out).into()
-}
-
-// The same, with the number of bytes written.
-fn write_checked(
+// The file at the start of out and the number of its bytes, or the first of 2, 4 to 11, 20 and 16, with out as it was.
+pub fn write(
     version: u32,
     nodes: &[u8],
     wires: &[u8],

@@ -83,7 +83,7 @@ pub fn lowest_cuttable(
     lowest_free(obstacles, Line::of_wire(nodes, wires, i), x, end)
 }
 
-// The search down a line: an obstacle that bars a position is left behind in one step.
+// The search down a line. An obstacle that bars a position is left behind in one step, where a `for` would try its positions one by one.
 fn highest_free(obstacles: &[u8], line: Line, last: u32) -> Option<u32>
     requires { Reaches line last }
     ensures { Highest (barred_at obstacles.now line) last result }

@@ -1,14 +1,9 @@
 -- `listing::write_list` meets its contract: below r every wire's entries are written, one behind the other.
 -- Assumes nothing.
-use Prim.Native.Nat.{◌-◌, ◌≤◌}
-use mathlib.Core.Path.{◌≡◌}
-use lib.ListN.{length}
+use Rattle.std.proofs.Common.{◌≡◌}
 use Rattle.laws.specs.Lists.{over}
 use Rattle.listing.specs.Listing.{list_of, count_of}
 use Rattle.listing.proofs.write_list.Given as goal
 
 abbrev pub invariant-loop-r : goal.invariant-loop-r
-invariant-loop-r l = (l.r ≤ l.n) × (length l.out ≡ length l.initial.out) × (l.count ≡ count_of l.r l.near l.cut_high) × (l.out ≡ over (list_of l.r l.hi l.near l.cut_high) l.initial.out)
-
-abbrev pub decreases-loop-r : goal.decreases-loop-r
-decreases-loop-r l = l.n - l.r
+invariant-loop-r l = (l.count ≡ count_of l.r l.near l.cut_high) × (l.out ≡ over (list_of l.r l.hi l.near l.cut_high) l.initial.out)

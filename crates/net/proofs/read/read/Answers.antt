@@ -1,11 +1,11 @@
--- `net::read::count_nodes` meets its contract.
+-- `net::read::read` meets its contract.
 -- Assumes nothing.
 use Rattle.std.proofs.lemmas.Result.{err_from_is_err_and}
 use mathlib.Core.Path.{◌∙◌, refl}
 use Rattle.net.specs.Refusal.{none}
 use Rattle.net.specs.Answered.{answered_err, answered_ok}
 use Rattle.net.specs.Reading.{read_answer_lem}
-use Rattle.net.proofs.read.count_nodes.Goals as goal
+use Rattle.net.proofs.read.read.Goals as goal
 
 pub returns-in_err-net : goal.returns-in_err-net
 returns-in_err-net c =

@@ -1,4 +1,4 @@
--- `net::write::write_checked` meets its contract.
+-- `net::write::write` meets its contract.
 -- Assumes nothing.
 use native.Mathlib.Omega.{arith}
 use Rattle.std.proofs.lemmas.Result.{err_from_is_err_and}
@@ -13,7 +13,7 @@ use Rattle.net.specs.Answered.{met_refusal, answered_err, answered_ok}
 use Rattle.net.specs.Versions.{version_low, section_short}
 use Rattle.net.specs.Accepted.{net_right_of}
 use Rattle.net.specs.Writing.{write_version, write_net, write_lent, write_done, answer-refused, answer-done, buffer-refused, buffer-done}
-use Rattle.net.proofs.write.write_checked.Goals as goal
+use Rattle.net.proofs.write.write.Goals as goal
 
 pub returns-then-not-is_version : goal.returns-then-not-is_version
 returns-then-not-is_version c =
