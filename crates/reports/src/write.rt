@@ -11,7 +11,8 @@ ghost use Rattle.records.specs.ListRight.{ListRight, ListAccepted};
 ghost use Rattle.records.specs.Record.{stretches_fields};
 ghost use Rattle.reports.specs.Gathered.{flags};
 ghost use Rattle.reports.specs.Writing.{node_fields};
-ghost use Rattle.reports.specs.ListRight.{GatheredBelow, RecordsFit};
+ghost use Rattle.reports.specs.ListRight.{GatheredBelow};
+ghost use Rattle.records.specs.Held.{RecordsFit};
 ghost use Rattle.reports.specs.ListRights.{WireEntries};
 
 use crate::gather::Piece;
@@ -71,7 +72,7 @@ pub fn write_records(
     requires list_accepted { ListAccepted nodes.now wires.now stage jumpers.now }
     requires roomy { node_count nodes.now ≤ length pieces.now }
     requires gathered_below { GatheredBelow nodes.now wires.now stage jumpers.now (node_count nodes.now) pieces.now }
-    requires records_fit { RecordsFit nodes.now wires.now stage jumpers.now out.old }
+    requires records_fit { RecordsFit nodes.now wires.now stage jumpers.now limit out.old }
     ensures { (v : ℕ) (os : List ℕ) → ListRight v nodes.now wires.now stage jumpers.now os →
         out.new ≡ place 0 (report_of (stage_of v nodes.now wires.now os stage) limit (set_of jumpers.now)) out.old }
 {

@@ -7,6 +7,7 @@ use Rattle.net.specs.Stage.{stage_of}
 use Rattle.pieces.specs.JumperList.{set_of}
 use Rattle.reports.specs.ListRights.{wire-entries}
 use Rattle.records.specs.ListRights.{node-small}
+use Rattle.reports.specs.Reporting.{report_room}
 use Rattle.reports.specs.Writing.{records-none, records-all, wire-room, wire-placed}
 use Rattle.records.specs.Joined.{flags-small}
 use Rattle.records.specs.Reached.{reached_none, reached_wire, reached_next}
@@ -35,7 +36,7 @@ write_node-behind-requires c =
     let os = accepted.1 in
     let j = accepted.2 in
     let g = c.requires.gathered_below version os j in
-    let r = wire-room version a.nodes.now a.wires.now a.jumpers.now os a.stage j a.limit g c.loop-i.i c.loop-i.e c.entries_end-end.result h w a.out.now c.loop-i.at (v.written version os j).0 (c.requires.records_fit version os j) in
+    let r = wire-room version a.nodes.now a.wires.now a.jumpers.now os a.stage j a.limit g c.loop-i.i c.loop-i.e c.entries_end-end.result h w a.out.now c.loop-i.at (v.written version os j).0 (report_room (stage_of version a.nodes.now a.wires.now os a.stage) a.limit a.jumpers.now (c.requires.records_fit version os j)) in
     let f = flags-small (stage_of version a.nodes.now a.wires.now os a.stage) (set_of a.jumpers.now) (node_count a.nodes.now) c.loop-i.i in
     record {
       i_lt_most_nodes = (node-small a.nodes.now a.wires.now a.jumpers.now a.stage accepted c.loop-i.i h, omega (arith, c.requires.roomy), omega (arith, g.flagged c.loop-i.i));
@@ -54,7 +55,7 @@ write_wire_records-at-requires c =
     let os = accepted.1 in
     let j = accepted.2 in
     let g = c.requires.gathered_below version os j in
-    let r = wire-room version a.nodes.now a.wires.now a.jumpers.now os a.stage j a.limit g c.loop-i.i c.loop-i.e c.entries_end-end.result h w a.out.now c.loop-i.at (v.written version os j).0 (c.requires.records_fit version os j) in
+    let r = wire-room version a.nodes.now a.wires.now a.jumpers.now os a.stage j a.limit g c.loop-i.i c.loop-i.e c.entries_end-end.result h w a.out.now c.loop-i.at (v.written version os j).0 (report_room (stage_of version a.nodes.now a.wires.now os a.stage) a.limit a.jumpers.now (c.requires.records_fit version os j)) in
     record {
       wire_entries = wire-entries a.nodes.now a.wires.now a.jumpers.now a.stage accepted c.loop-i.i h c.loop-i.e c.entries_end-end.result w;
       room = omega (arith, c.write_node-behind.ensures.0);
@@ -74,7 +75,7 @@ loop-i-preserved c =
       written = λ version os j.
           wire-placed version a.nodes.now a.wires.now a.jumpers.now os a.stage j a.limit (c.requires.gathered_below version os j) c.loop-i.i c.loop-i.e c.entries_end-end.result h w
           a.out.now c.loop-i.out behind.new.out at.new.out c.loop-i.at behind.result at.result
-          (v.written version os j).0 (v.written version os j).1 (c.requires.records_fit version os j) behind.ensures.0 behind.ensures.1 at.ensures.0 at.ensures.1;
+          (v.written version os j).0 (v.written version os j).1 (report_room (stage_of version a.nodes.now a.wires.now os a.stage) a.limit a.jumpers.now (c.requires.records_fit version os j)) behind.ensures.0 behind.ensures.1 at.ensures.0 at.ensures.1;
     }
 
 pub returns : goal.returns
