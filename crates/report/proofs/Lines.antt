@@ -1,7 +1,6 @@
 -- The lines of report's answer.
-use Rattle.std.proofs.Common.{ℕ, ◌*◌, ◌≤◌, ◌≡◌, refl, Bool, true, false, not, eqb, cond, List, [], ◌++◌, length, take, drop, sym, ap, subst, ◌∙◌, None, Some, IfSome, arith}
-use Rattle.std.proofs.Math.Seq.{take_at, take-nil}
-use Rattle.std.proofs.lemmas.List.{drop_all, length-take-le}
+use Rattle.std.proofs.Common.{ℕ, ◌*◌, ◌≡◌, refl, Bool, true, false, not, eqb, cond, List, [], ◌++◌, length, take, drop, sym, ap, subst, ◌∙◌, None, Some, IfSome}
+use Rattle.std.proofs.Math.Seq.{take_at}
 use Rattle.std.specs.declared.option.Option.{Option}
 use Rattle.std.specs.Io.KnownBytes.{Appends}
 use Rattle.net.specs.declared.Answer.{Answer}
@@ -37,10 +36,6 @@ either_lines : (q : Verdict) (count : ℕ) (out records rest : List ℕ) → len
     answer_lines (answer q count) (cond t out (records ++ rest)) ≡ cond t (refusal_line q.number q.place) (record_lines records)
 either_lines q count out records rest whole true m = refused_lines q count out m
 either_lines q count out records rest whole false m = done_lines q count records rest m whole
-
--- behind the first n bytes of n bytes there are none
-pub none_behind : (n k : ℕ) (xs : List ℕ) → n ≤ length xs → take k (drop n (take n xs)) ≡ []
-none_behind n k xs within = let l = length-take-le n xs within in ap (take k) (drop_all n (take n xs) (omega arith)) ∙ take-nil k
 
 pub reported_lines : (stage limit : ℕ) (file none out after : List ℕ) (r : Answer) → none ≡ [] → length out ≡ lent_bytes → r ≡ report_answer stage file none (length out) →
     after ≡ report_buffer stage limit file none out → answer_lines r after ≡ call_lines stage limit file

@@ -34,9 +34,8 @@ fn run<R: Read, W: Write>(from: &mut R, to: &mut W) -> io::Result<()>
     let stage = console::stage_of(text);
     let limit = console::limit_of(text);
     let file = console::file_of(text);
-    let none = &text[n..];
     let mut out = [0u8; 3072];
-    let a = antenna::antenna_report(stage, limit, file, none, &mut out);
+    let a = antenna::antenna_report(stage, limit, file, &[], &mut out);
     print_answer(to, a, &out)
 }
 
