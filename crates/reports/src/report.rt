@@ -65,6 +65,7 @@ impl Steps for Gathering {
     }
 }
 
+// The records at the start of the lent buffer and their number, or the first refusal met.
 pub fn report(
     stage: u32,
     limit: u32,
