@@ -2,7 +2,7 @@
 -- Assumes nothing.
 use Rattle.std.specs.Prelude.{◌≡◌, ◌<◌, ◌≤◌, List, [], ◌∷◌, ◌++◌, length, take, set}
 use Rattle.std.proofs.Common.{◌∙◌, ⊎_elim, arith, ext_get_or, get_or-set_same, get_or-set_other}
-use Rattle.std.proofs.Math.Seq.{length-take-le, get_or-take}
+use Rattle.std.proofs.Math.Seq.{get_or-take}
 use Rattle.laws.specs.Sums.{last_or_below}
 use Rattle.net.specs.Layout.{most_nodes}
 use Rattle.routes.specs.Nodes.{Node, no_node}
@@ -11,9 +11,8 @@ use Rattle.routes.specs.Reaching.{length_more, node-before, node_at_end}
 
 module _ {nodes table : List Node} (h : TableHolds nodes table) where
   -- the nodes that it has
-  pub holds_all : length nodes ≤ most_nodes → length table ≡ most_nodes → take (length nodes) table ≡ nodes
-  holds_all l e =
-      let n = length-take-le (length nodes) table (omega arith) in
+  pub holds_all : length nodes ≤ most_nodes → length (take (length nodes) table) ≡ length nodes → take (length nodes) table ≡ nodes
+  holds_all l n =
       ext_get_or no_node (take (length nodes) table) nodes n
       (λ i k. let m : i < length nodes = omega arith in get_or-take (length nodes) table i no_node m ∙ h.entries i m (omega arith))
 

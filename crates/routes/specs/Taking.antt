@@ -3,6 +3,7 @@
 use Rattle.std.specs.Prelude.{ℕ, ◌+◌, ◌<◌, ◌≤◌, ◌≡◌, refl, Bool, true, false, cond, List, ◌∷◌, Option, Some, None, is_some, is_none, Ok, Err, ltb, length, take, set}
 use Rattle.std.proofs.Common.{◌∙◌, sym, arith, ne_eqb, lt-ltb, le-ltb}
 use Rattle.std.proofs.lemmas.Bool.{ltb-true, ltb-false}
+use Rattle.std.proofs.Math.Seq.{length-take-le}
 use Rattle.laws.specs.Sums.{by, lowest-none}
 use Rattle.net.specs.declared.refusal.Refusal.TheVariants.{RoutePoint}
 use Rattle.net.specs.Layout.{most_nodes}
@@ -86,7 +87,7 @@ module _ {all rest : List Point} {p : Point} {points : ℕ} {found : Option Foun
 
     module _ (k : length table ≡ most_nodes) where
       taken : take f.count table ≡ r.nodes
-      taken = rw near.0 (holds_all r.holds near.2 k)
+      taken = rw near.0 (holds_all r.holds near.2 (length-take-le (length r.nodes) table (omega (arith, near))))
 
       module _ {q : Placed} (w : q ≡ placed (take f.count table) f.last p) where
         here : q ≡ placed r.nodes f.last p

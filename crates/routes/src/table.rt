@@ -1,10 +1,21 @@
 // The table of the first nodes: nodes found in it, and a point placed among them.
-ghost use Rattle.std.specs.Prelude.{◌≡◌, true, ℕ, cond};
+ghost use Rattle.std.specs.Prelude.{◌≡◌, true, ℕ, ◌≤◌, cond, take, length, IsSomeAnd};
+ghost use Rattle.net.specs.Layout.{most_nodes};
 ghost use Rattle.routes.specs.Nodes.{known, known_at, number_on, lowest_at};
 ghost use Rattle.routes.specs.Table.{placed};
 
-use crate::{Node, Placed};
+use crate::{Node, Placed, Route};
 use paths::Point;
+
+impl Route {
+    // Its nodes, where the table has them all.
+    pub fn found(&self) -> Option<&[Node]>
+        ensures none { self.now.count ≡ None → result ≡ None }
+        ensures some { (n : ℕ) → self.now.count ≡ Some n → n ≤ most_nodes → IsSomeAnd result (λ x. (x.now ≡ take n self.now.nodes) × (length x.now ≡ n)) }
+    {
+        self.nodes.get(..self.count?)
+    }
+}
 
 // A point among the nodes found so far.
 pub fn place_point(nodes: &[Node], last: usize, p: Point) -> Placed
