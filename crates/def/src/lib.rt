@@ -12,7 +12,6 @@ ghost use Rattle.def.specs.Written.{flagged_nodes, written};
 
 use crate::pins::join_pins;
 use crate::sections::{write_nodes, write_wires};
-use net::Answer;
 use net::layout::{FIRST_VERSION, MOST_NODES, NODE_BYTES, WIRE_BYTES};
 use net::refusal::Refusal;
 use net::write::write;
@@ -24,27 +23,13 @@ pub mod sections;
 
 // A file that was written: the place in the text after `;`, and the number of its bytes.
 #[derive(Clone, Copy)]
-struct Written {
-    end: usize,
-    bytes: u64,
+pub struct Written {
+    pub end: usize,
+    pub bytes: u64,
 }
 
 // Reads the routing from a place on, and writes its net file: 17 or 18, 19, 4 to 11, 16, or the place after `;` and the number of bytes written.
-pub fn def(text: &[u8], place: usize, pins: &[u8], obstacles: &[u8], out: &mut [u8]) -> Answer
-    ensures { (result ≡ def_answer text.now place pins.now obstacles.now (length out.old)) × (out.new ≡ def_buffer text.now place pins.now obstacles.now out.old) }
-{
-    match write_route(text, place, pins, obstacles, out) {
-        Ok(file) => Answer {
-            number: 0,
-            place: file.end as u64,
-            count: file.bytes,
-        },
-        Err(refusal) => Err(refusal).into(),
-    }
-}
-
-// The same, or the refusal.
-fn write_route(
+pub fn def(
     text: &[u8],
     place: usize,
     pins: &[u8],

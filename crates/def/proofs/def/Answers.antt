@@ -1,4 +1,4 @@
--- `def::write_route` meets its contract.
+-- `def::def` meets its contract.
 -- Assumes nothing.
 use native.Mathlib.Omega.{arith}
 use mathlib.Core.Path.{◌≡◌}
@@ -10,7 +10,7 @@ use Rattle.routes.specs.Nodes.{route_nodes}
 use Rattle.def.specs.JoiningLaws.{routed}
 use Rattle.def.specs.Sectioning.{nodes-written}
 use Rattle.def.specs.Answering.{wrote-route, wrote-pins, wrote-many, wrote-unwritten, wrote-written}
-use Rattle.def.proofs.write_route.Goals as goal
+use Rattle.def.proofs.def.Goals as goal
 
 pub returns-in_err-route : goal.returns-in_err-route
 returns-in_err-route c =
