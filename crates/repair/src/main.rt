@@ -1,7 +1,7 @@
 // Reads stage, limit and a net file from standard input, repairs the net and prints the jumpers.
 #![tactic(auto)]
 
-ghost use Rattle.std.specs.Prelude.{ℕ, ◌*◌, ◌≤◌, List, length, take, IfOk, IfSome, OnOk};
+ghost use Rattle.std.specs.Prelude.{◌≡◌, ℕ, ◌*◌, ◌≤◌, List, length, take, IfOk, IfSome, OnOk};
 ghost use Rattle.std.specs.Io.KnownBytes.{Appends};
 ghost use Rattle.net.specs.Layout.{entry_bytes};
 ghost use Rattle.net.specs.Numbers.{answered};
@@ -19,12 +19,10 @@ fn print_answer<W: Write>(to: &mut W, answer: Result<u64, Refusal>, out: &[u8]) 
 {
     match answer {
         Ok(count) => {
-            to.write_all(b"jumpers ")?;
-            console::print_number(to, count, b'\n')?;
-            let used = ENTRY_BYTES * (count as usize);
-            console::print_list(to, &out[..used])
+            writeln!(to, "jumpers {count}")?;
+            console::print_list(to, &out[..ENTRY_BYTES * (count as usize)])
         }
-        Err(refusal) => console::print_refusal(to, refusal.number(), refusal.place()),
+        Err(refusal) => console::print_refusal(to, refusal),
     }
 }
 

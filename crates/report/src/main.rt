@@ -1,7 +1,7 @@
 // Reads stage, limit and a net file from standard input and prints the piece records of the uncut stage, one a line.
 #![tactic(auto)]
 
-ghost use Rattle.std.specs.Prelude.{◌*◌, ◌≤◌, length, take, IfOk, IfSome, OnOk};
+ghost use Rattle.std.specs.Prelude.{◌≡◌, ◌*◌, ◌≤◌, length, take, IfOk, IfSome, OnOk};
 ghost use Rattle.std.specs.Io.KnownBytes.{Appends};
 ghost use Rattle.net.specs.Layout.{record_bytes};
 ghost use Rattle.net.specs.Numbers.{answered};
@@ -18,11 +18,8 @@ fn print_answer<W: Write>(to: &mut W, answer: Result<u64, Refusal>, out: &[u8]) 
     ensures { OnOk result (Appends (W.contents to.old) (W.contents to.new) (answer_lines (answered answer) out.now)) }
 {
     match answer {
-        Ok(count) => {
-            let used = RECORD_BYTES * (count as usize);
-            console::print_records(to, &out[..used])
-        }
-        Err(refusal) => console::print_refusal(to, refusal.number(), refusal.place()),
+        Ok(count) => console::print_records(to, &out[..RECORD_BYTES * (count as usize)]),
+        Err(refusal) => console::print_refusal(to, refusal),
     }
 }
 
