@@ -1,6 +1,7 @@
 -- The positions in the work arrays as numbers: 0 where a wire cannot be cut.
 -- Assumes nothing.
-use Rattle.std.specs.Prelude.{ℕ, ◌<◌, ◌≡◌, Option, None, Some, List, length, get_or, map}
+use Rattle.std.specs.Prelude.{ℕ, ◌<◌, ◌≡◌, ◌≢◌, true, false, Option, None, Some, is_some, List, length, get_or, map}
+use Rattle.std.proofs.Common.{refl, sym, ◌∙◌, arith}
 use Rattle.std.proofs.lemmas.List.{get_or-map}
 use Rattle.clusters.specs.declared.work.Cuttable.{Cuttable}
 
@@ -24,3 +25,18 @@ lo_at cuttable i d p = get_or-map lo_of cuttable i d 0 p
 
 pub hi_at : (cuttable : List (Option Cuttable)) (i : ℕ) (d : Option Cuttable) → i < length cuttable → get_or (his cuttable) i 0 ≡ hi_of (get_or cuttable i d)
 hi_at cuttable i d p = get_or-map hi_of cuttable i d 0 p
+
+-- where there is none the number is 0, and else above 0
+lo_none : (o : Option Cuttable) → is_some o ≡ false → lo_of o ≡ 0
+lo_none None e = refl
+lo_none (Some c) e = cc
+
+lo_some : (o : Option Cuttable) → is_some o ≡ true → lo_of o ≢ 0
+lo_some None e = cc
+lo_some (Some c) e = λ z. let p = c.positive in omega arith
+
+pub zero_at : (cuttable : List (Option Cuttable)) (i : ℕ) (d : Option Cuttable) → i < length cuttable → is_some (get_or cuttable i d) ≡ false → get_or (los cuttable) i 0 ≡ 0
+zero_at cuttable i d p e = lo_at cuttable i d p ∙ lo_none (get_or cuttable i d) e
+
+pub positive_at : (cuttable : List (Option Cuttable)) (i : ℕ) (d : Option Cuttable) → i < length cuttable → is_some (get_or cuttable i d) ≡ true → get_or (los cuttable) i 0 ≢ 0
+positive_at cuttable i d p e z = lo_some (get_or cuttable i d) e (sym (lo_at cuttable i d p) ∙ z)
