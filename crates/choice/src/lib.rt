@@ -5,17 +5,23 @@ ghost use Rattle.std.specs.Prelude.{◌≡◌, Bool, false, not, ◌&&◌, ◌||
 ghost use Rattle.net.specs.Layout.{wire_bytes};
 ghost use Rattle.net.specs.Limits.{length_bound, weight_bound};
 ghost use Rattle.clusters.specs.Stretch.{stretch_weight};
+ghost use Rattle.counting.specs.Optional.{flags};
 ghost use Rattle.choice.specs.Choose.{Chooses, Choosable};
 
 use clusters::stretch::stretch_weight;
 use clusters::work::{Clusters, Cuttable};
 use counting::work::Counts;
 
-// A branch is cut at its highest cuttable point: its host takes the any-option, which cuts it, or the ungated one, and it can add nothing without a gate.
-fn is_cut_high(host_any: bool, cut_any: bool, has_ungated: bool) -> bool
-    ensures { result ≡ cond host_any cut_any (not has_ungated) }
+// Branch r is cut at its highest cuttable point: its host takes the any-option, which cuts it, or the ungated one, and it can add nothing without a gate.
+fn is_cut_high<const N: usize>(k: &Counts<N>, r: usize, host_any: bool) -> bool
+    requires { r < N }
+    ensures { result ≡ cond host_any (get_or k.now.cut_any r false) (not (get_or (flags k.now.ungated) r false)) }
 {
-    if host_any { cut_any } else { !has_ungated }
+    if host_any {
+        k.cut_any[r]
+    } else {
+        k.ungated[r].is_none()
+    }
 }
 
 // The any-option of cluster r is within the limit with all of branch r's wire from its lowest to its highest cuttable point.
@@ -57,7 +63,7 @@ pub fn choose<const N: usize>(
     for r in 0..c.n {
         if let Some(ends) = c.cuttable[r] {
             let host_any = any_mode[c.host[r]];
-            let here = is_cut_high(host_any, k.cut_any[r], k.ungated[r].is_some());
+            let here = is_cut_high(k, r, host_any);
             let fits = fits_whole(wires, r, ends, k, limit);
             cut_high[r] = here;
             any_mode[r] = takes_any(0 < k.near[r], host_any, here, fits);
