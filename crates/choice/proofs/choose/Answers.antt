@@ -1,7 +1,7 @@
 -- `choice::choose` meets its contract: the clusters passed have their options, and what is added now is at the next one.
 -- Assumes nothing.
-use Rattle.std.proofs.Common.{ℕ, Bool, false, cond, not, ◌≡◌, ◌<◌, ◌≤◌, ◌+◌, ◌∙◌, sym, ap, get_or, set, length, length-set, rules, arith}
-use Rattle.clusters.specs.Positions.{lo_of, hi_of, los, his, lo_at, hi_at}
+use Rattle.std.proofs.Common.{ℕ, Bool, ◌≡◌, ◌<◌, ◌≤◌, ◌+◌, ◌∙◌, ap, get_or, set, length, length-set, rules, arith}
+use Rattle.clusters.specs.Positions.{lo_of, hi_of, los, lo_at, hi_at}
 use Rattle.choice.specs.Choose.{cut_here, any_here, Chooses}
 use Rattle.choice.specs.ChooseLaws.{cut_here-root, any_here-root, cut_here-branch, any_here-branch, chooses_more}
 use Rattle.choice.proofs.choose.Goals as goal

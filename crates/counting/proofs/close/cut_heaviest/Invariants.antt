@@ -2,7 +2,6 @@
 -- Assumes nothing.
 use Rattle.std.proofs.Common.{◌≤◌, ◌+◌, get_or}
 use Rattle.clusters.specs.Positions.{los}
-use Rattle.counting.specs.Optional.{flags, weights}
 use Rattle.counting.specs.Close.{branch_sum, Cutting}
 use Rattle.counting.proofs.close.cut_heaviest.Given as goal
 

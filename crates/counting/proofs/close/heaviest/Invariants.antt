@@ -2,7 +2,6 @@
 -- Assumes nothing.
 use Rattle.std.proofs.Common.{◌≡◌}
 use Rattle.clusters.specs.Positions.{los}
-use Rattle.counting.specs.Optional.{flags, weights}
 use Rattle.counting.specs.Close.{Heaviest}
 use Rattle.counting.specs.CloseSums.{weight_at, at_of}
 use Rattle.counting.proofs.close.heaviest.Given as goal
