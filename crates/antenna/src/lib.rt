@@ -3,15 +3,18 @@
 
 ghost use Rattle.std.specs.Prelude.{◌≡◌, length};
 ghost use Rattle.repairs.specs.Promise.{Repaired};
+ghost use Rattle.net.specs.Numbers.{answered};
 ghost use Rattle.net.specs.Refusal.{read_answer, write_answer, write_buffer};
 ghost use Rattle.reports.specs.Promise.{report_answer, report_buffer};
 ghost use Rattle.def.specs.Promise.{def_answer, def_buffer};
+ghost use Rattle.def.specs.Written.{written};
 
-use net::Answer;
+use def::Written;
+use net::refusal::Refusal;
 
 // Reads a net file alone: 2 to 11 and 20, or the number of nodes.
-pub fn antenna_read(file: &[u8]) -> Answer
-    ensures { result ≡ read_answer file.now }
+pub fn antenna_read(file: &[u8]) -> Result<u64, Refusal>
+    ensures { answered result ≡ read_answer file.now }
 {
     net::read::read(file)
 }
@@ -23,22 +26,28 @@ pub fn antenna_write(
     wires: &[u8],
     obstacles: &[u8],
     out: &mut [u8],
-) -> Answer
-    ensures { (result ≡ write_answer version nodes.now wires.now obstacles.now (length out.old)) × (out.new ≡ write_buffer version nodes.now wires.now obstacles.now out.old) }
+) -> Result<u64, Refusal>
+    ensures { (answered result ≡ write_answer version nodes.now wires.now obstacles.now (length out.old)) × (out.new ≡ write_buffer version nodes.now wires.now obstacles.now out.old) }
 {
     net::write::write(version, nodes, wires, obstacles, out)
 }
 
 // Reports every piece of a net at a stage with jumpers in place: 1, 2 to 11 and 20, 12 to 14, 16, or the number of records.
-pub fn antenna_report(stage: u32, limit: u32, file: &[u8], jumpers: &[u8], out: &mut [u8]) -> Answer
-    ensures { (result ≡ report_answer stage file.now jumpers.now (length out.old)) × (out.new ≡ report_buffer stage limit file.now jumpers.now out.old) }
+pub fn antenna_report(
+    stage: u32,
+    limit: u32,
+    file: &[u8],
+    jumpers: &[u8],
+    out: &mut [u8],
+) -> Result<u64, Refusal>
+    ensures { (answered result ≡ report_answer stage file.now jumpers.now (length out.old)) × (out.new ≡ report_buffer stage limit file.now jumpers.now out.old) }
 {
     reports::one_pass::report(stage, limit, file, jumpers, out)
 }
 
 // Finds a smallest legal jumper set of a net at a stage under a limit: 1, 2 to 11 and 20, 15, 16, or the number of jumpers written.
-pub fn antenna_repair(stage: u32, limit: u32, file: &[u8], out: &mut [u8]) -> Answer
-    ensures { Repaired stage limit file.now out.old out.new result }
+pub fn antenna_repair(stage: u32, limit: u32, file: &[u8], out: &mut [u8]) -> Result<u64, Refusal>
+    ensures { Repaired stage limit file.now out.old out.new (answered result) }
 {
     repairs::repair(stage, limit, file, out)
 }
@@ -50,8 +59,8 @@ pub fn antenna_def(
     pins: &[u8],
     obstacles: &[u8],
     out: &mut [u8],
-) -> Answer
-    ensures { (result ≡ def_answer text.now place pins.now obstacles.now (length out.old)) × (out.new ≡ def_buffer text.now place pins.now obstacles.now out.old) }
+) -> Result<Written, Refusal>
+    ensures { (written result ≡ def_answer text.now place pins.now obstacles.now (length out.old)) × (out.new ≡ def_buffer text.now place pins.now obstacles.now out.old) }
 {
     def::def(text, place, pins, obstacles, out)
 }

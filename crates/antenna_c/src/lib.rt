@@ -14,7 +14,7 @@ use net::Answer;
 pub extern "C" fn antenna_read(file: &[u8]) -> Answer
     ensures { result ≡ read_answer file.now }
 {
-    antenna::antenna_read(file)
+    antenna::antenna_read(file).into()
 }
 
 // Writes the net file of a version and three sections: 2, 4 to 11 and 20, 16, or the number of bytes written.
@@ -28,7 +28,7 @@ pub extern "C" fn antenna_write(
 ) -> Answer
     ensures { (result ≡ write_answer version nodes.now wires.now obstacles.now (length out.old)) × (out.new ≡ write_buffer version nodes.now wires.now obstacles.now out.old) }
 {
-    antenna::antenna_write(version, nodes, wires, obstacles, out)
+    antenna::antenna_write(version, nodes, wires, obstacles, out).into()
 }
 
 // Reports every piece of a net at a stage with jumpers in place: 1, 2 to 11 and 20, 12 to 14, 16, or the number of records.
@@ -42,7 +42,7 @@ pub extern "C" fn antenna_report(
 ) -> Answer
     ensures { (result ≡ report_answer stage file.now jumpers.now (length out.old)) × (out.new ≡ report_buffer stage limit file.now jumpers.now out.old) }
 {
-    antenna::antenna_report(stage, limit, file, jumpers, out)
+    antenna::antenna_report(stage, limit, file, jumpers, out).into()
 }
 
 // Finds a smallest legal jumper set of a net at a stage under a limit: 1, 2 to 11 and 20, 15, 16, or the number of jumpers written.
@@ -50,7 +50,7 @@ pub extern "C" fn antenna_report(
 pub extern "C" fn antenna_repair(stage: u32, limit: u32, file: &[u8], out: &mut [u8]) -> Answer
     ensures { Repaired stage limit file.now out.old out.new result }
 {
-    antenna::antenna_repair(stage, limit, file, out)
+    antenna::antenna_repair(stage, limit, file, out).into()
 }
 
 // Reads one net's routing from DEF text, from a place on, and writes its net file: 17 or 18, 19, 4 to 11, 16, or the place after `;` and the number of bytes written.
@@ -64,5 +64,12 @@ pub extern "C" fn antenna_def(
 ) -> Answer
     ensures { (result ≡ def_answer text.now place pins.now obstacles.now (length out.old)) × (out.new ≡ def_buffer text.now place pins.now obstacles.now out.old) }
 {
-    antenna::antenna_def(text, place, pins, obstacles, out)
+    match antenna::antenna_def(text, place, pins, obstacles, out) {
+        Ok(file) => Answer {
+            number: 0,
+            place: file.end as u64,
+            count: file.bytes,
+        },
+        Err(refusal) => Err(refusal).into(),
+    }
 }

@@ -1,5 +1,9 @@
 -- Lines that are printed one behind the other.
-use Rattle.std.proofs.Common.{ℕ, suc, ◌≡◌, List, ◌++◌, sym, subst}
+use Rattle.std.proofs.Common.{ℕ, suc, ◌+◌, ◌*◌, ◌/◌, ◌≡◌, ◌<◌, ◌≤◌, List, ◌++◌, length, take, drop, get_or, refl, sym, ap, ◌∙◌, subst, take_at, drop_at, drop-drop, length-append, length-drop, get_or-drop, mul_comm, arith}
+use Rattle.std.proofs.lemmas.List.{get_or-take}
+use Rattle.net.specs.Layout.{entry_bytes, record_bytes}
+use Rattle.console.specs.Lines.{entry_line, record_line}
+use Rattle.std.proofs.Math.Arith.{digits_div}
 use Rattle.std.specs.declared.option.Option.{Option}
 use Rattle.std.specs.Io.KnownBytes.{Appends}
 use Rattle.std.proofs.KnownBytes.{Appends-trans}
@@ -11,12 +15,47 @@ one_more line m n a b c e p q =
     let P : ℕ → Type 0 = λ k. Appends a c (gather k line) in
     subst P (sym e) (Appends-trans a b c (gather n line) (line n) p q)
 
--- seven texts, one behind the other
-pub seven : (a b c d e f g h : Option (List ℕ)) (t u v w x y z : List ℕ) → Appends a b t → Appends b c u → Appends c d v → Appends d e w → Appends e f x →
-    Appends f g y → Appends g h z → Appends a h (t ++ u ++ v ++ w ++ x ++ y ++ z)
-seven a b c d e f g h t u v w x y z k l m n o p q =
-    Appends-trans a g h _ z
-    (Appends-trans a f g _ y
-    (Appends-trans a e f _ x (Appends-trans a d e _ w (Appends-trans a c d _ v (Appends-trans a b c t u k l) m) n) o)
-    p)
-    q
+-- chunk k of a list, of some size, and what stands behind it
+module _ (size k : ℕ) (bytes chunk behind : List ℕ) (e : chunk ++ behind ≡ drop (size * k) bytes) (n : length chunk ≡ size) where
+  pub chunk_is : chunk ≡ take size (drop (size * k) bytes)
+  chunk_is = rw (← e) (sym (take_at chunk behind size n))
+
+  pub behind_is : behind ≡ drop (size * suc k) bytes
+  behind_is = sym (drop_at chunk behind size n) ∙ rw e (drop-drop size (size * k) bytes ∙ ap (λ m. drop m bytes) (omega arith))
+
+  pub within : size * k ≤ length bytes → size * suc k ≤ length bytes
+  within h = omega (arith, length-append chunk behind, length-drop (size * k) bytes, ap length e)
+
+-- what stands behind the last whole chunk
+pub whole : (size k : ℕ) (bytes rest : List ℕ) → rest ≡ drop (size * k) bytes → size * k ≤ length bytes → length rest < size → k ≡ length bytes / size
+whole size k bytes rest e h l =
+    let n : length bytes ≡ k * size + length rest = omega (arith, length-drop (size * k) bytes, ap length e, mul_comm k size) in
+    sym (rw n (digits_div k l))
+
+-- a byte of a part of a list
+byte_there : (size at i j : ℕ) (l : List ℕ) → i < size → at + i ≡ j → get_or (take size (drop at l)) i 0 ≡ get_or l j 0
+byte_there size at i j l h e = get_or-take size (drop at l) i 0 h ∙ get_or-drop at l i 0 ∙ ap (λ k. get_or l k 0) e
+
+-- the lines of an entry and of a record, each as a part of its list
+pub entry_there : (l : List ℕ) (at : ℕ) → entry_line (take entry_bytes (drop at l)) 0 ≡ entry_line l at
+entry_there l at =
+    let b : (i j : ℕ) → i < entry_bytes → at + i ≡ j → get_or (take entry_bytes (drop at l)) i 0 ≡ get_or l j 0 = λ i j. byte_there entry_bytes at i j l in
+    rw (b 0 at (omega arith) (omega arith), b 1 (at + 1) (omega arith) refl, b 2 (at + 1 + 1) (omega arith) (omega arith))
+
+pub record_there : (l : List ℕ) (at : ℕ) → record_line (take record_bytes (drop at l)) 0 ≡ record_line l at
+record_there l at =
+    let b : (i j : ℕ) → i < record_bytes → at + i ≡ j → get_or (take record_bytes (drop at l)) i 0 ≡ get_or l j 0 = λ i j. byte_there record_bytes at i j l in
+    rw (
+      b 0 at (omega arith) (omega arith),
+      b 1 (at + 1) (omega arith) refl,
+      b 2 (at + 1 + 1) (omega arith) (omega arith),
+      b 3 (at + 3) (omega arith) refl,
+      b 4 (at + 3 + 1) (omega arith) (omega arith),
+      b 5 (at + 3 + 2) (omega arith) (omega arith),
+      b 6 (at + 3 + 3) (omega arith) (omega arith),
+      b 7 (at + 7) (omega arith) refl,
+      b 8 (at + 8) (omega arith) refl,
+      b 9 (at + 8 + 1) (omega arith) (omega arith),
+      b 10 (at + 10) (omega arith) refl,
+      b 11 (at + 11) (omega arith) refl,
+    )

@@ -1,8 +1,9 @@
 // What the two programs share: the parts of their input, and the lines they print.
 #![tactic(auto)]
 
-ghost use Rattle.std.specs.Prelude.{◌≡◌, ◌+◌, ◌≤◌, length, take, IfOk, IfSome, OnOk};
+ghost use Rattle.std.specs.Prelude.{◌≡◌, ℕ, ◌+◌, ◌*◌, ◌/◌, ◌<◌, ◌≤◌, List, length, take, drop, IfOk, IfSome, OnOk};
 ghost use Rattle.std.specs.Io.KnownBytes.{Appends};
+ghost use Rattle.laws.specs.Gather.{gather};
 ghost use Rattle.net.specs.Layout.{entry_bytes, record_bytes};
 ghost use Rattle.console.specs.Input.{input_stage, input_limit, input_file};
 ghost use Rattle.console.specs.Lines.{number_text, refusal_line, entry_line, list_lines, record_line, record_lines};
@@ -14,12 +15,6 @@ use std::io::{Read, Write};
 
 // Bytes before the net file: stage and limit.
 const LEAD_BYTES: usize = 5;
-
-fn wide(x: u8) -> u32
-    ensures { result ≡ x }
-{
-    x as u32
-}
 
 // Reads until `input` is full or no byte is left, and answers how many bytes it read to its front.
 pub fn read_input<R: Read>(from: &mut R, input: &mut [u8]) -> io::Result<usize>
@@ -43,7 +38,7 @@ pub fn stage_of(input: &[u8]) -> u32
     if input.len() < LEAD_BYTES {
         return 0;
     }
-    wide(input[0])
+    u32::from(input[0])
 }
 
 pub fn limit_of(input: &[u8]) -> u32
@@ -58,10 +53,7 @@ pub fn limit_of(input: &[u8]) -> u32
 pub fn file_of(input: &[u8]) -> &[u8]
     ensures { result.now ≡ input_file input.now }
 {
-    if input.len() < LEAD_BYTES {
-        return &input[input.len()..];
-    }
-    &input[LEAD_BYTES..]
+    input.get(LEAD_BYTES..).unwrap_or(&[])
 }
 
 // A number and what stands behind it: a space or a line end.
@@ -76,54 +68,69 @@ pub fn print_number<W: Write>(to: &mut W, n: u64, end: u8) -> io::Result<()>
 pub fn print_refusal<W: Write>(to: &mut W, number: u32, place: u64) -> io::Result<()>
     ensures { OnOk result (Appends (W.contents to.old) (W.contents to.new) (refusal_line number place)) }
 {
-    to.write_all(b"refused ")?;
-    print_number(to, number as u64, b' ')?;
-    print_number(to, place, b'\n')
+    writeln!(to, "refused {number} {place}")
 }
 
-// The wire and the position of the entry at a place.
-fn print_entry<W: Write>(to: &mut W, list: &[u8], at: usize) -> io::Result<()>
-    requires { at + entry_bytes ≤ length list.now }
-    ensures { OnOk result (Appends (W.contents to.old) (W.contents to.new) (entry_line list.now at)) }
+// The wire and the position of an entry.
+fn print_entry<W: Write>(to: &mut W, entry: &[u8]) -> io::Result<()>
+    requires { entry_bytes ≤ length entry.now }
+    ensures { OnOk result (Appends (W.contents to.old) (W.contents to.new) (entry_line entry.now 0)) }
 {
-    print_number(to, wide(list[at]) as u64, b' ')?;
-    print_number(to, u16_at(list, at + 1) as u64, b'\n')
+    writeln!(to, "{} {}", entry[0], u16_at(entry, 1))
+}
+
+// The seven fields of a piece record, with one space between them.
+fn print_record<W: Write>(to: &mut W, bytes: &[u8]) -> io::Result<()>
+    requires { record_bytes ≤ length bytes.now }
+    ensures { OnOk result (Appends (W.contents to.old) (W.contents to.new) (record_line bytes.now 0)) }
+{
+    writeln!(
+        to,
+        "{} {} {} {} {} {} {}",
+        bytes[0],
+        u16_at(bytes, 1),
+        u32_at(bytes, 3),
+        bytes[7],
+        u16_at(bytes, 8),
+        bytes[10],
+        bytes[11]
+    )
+}
+
+// A line for each whole chunk of so many bytes.
+fn print_lines<W: Write, F: Fn(&mut W, &[u8]) -> io::Result<()>>(
+    to: &mut W,
+    bytes: &[u8],
+    size: usize,
+    print: F,
+) -> io::Result<()>
+    requires some { 0 < size }
+    requires takes { (t : _) (chunk : _) → length chunk.now ≡ size → F.pre print t chunk }
+    ensures { (line : List ℕ → List ℕ) →
+        ((t : _) (chunk : _) (r : _) (u : _) → F.post print t chunk r u → OnOk r (Appends (W.contents t.now) (W.contents u.now) (line chunk.now))) →
+        OnOk result (Appends (W.contents to.old) (W.contents to.new) (gather (length bytes.now / size) (λ k. line (take size (drop (size * k) bytes.now))))) }
+{
+    for chunk in bytes.chunks_exact(size) {
+        print(to, chunk)?;
+    }
+    Ok(())
 }
 
 // A jumper list: a line `wire position` for each entry.
 pub fn print_list<W: Write>(to: &mut W, list: &[u8]) -> io::Result<()>
     ensures { OnOk result (Appends (W.contents to.old) (W.contents to.new) (list_lines list.now)) }
 {
-    let mut at: usize = 0;
-    while ENTRY_BYTES <= list.len() - at {
-        print_entry(to, list, at)?;
-        at += ENTRY_BYTES;
-    }
-    Ok(())
-}
-
-// The seven fields of the piece record at a place, with one space between them.
-fn print_record<W: Write>(to: &mut W, records: &[u8], at: usize) -> io::Result<()>
-    requires { at + record_bytes ≤ length records.now }
-    ensures { OnOk result (Appends (W.contents to.old) (W.contents to.new) (record_line records.now at)) }
-{
-    print_number(to, wide(records[at]) as u64, b' ')?;
-    print_number(to, u16_at(records, at + 1) as u64, b' ')?;
-    print_number(to, u32_at(records, at + 3) as u64, b' ')?;
-    print_number(to, wide(records[at + 7]) as u64, b' ')?;
-    print_number(to, u16_at(records, at + 8) as u64, b' ')?;
-    print_number(to, wide(records[at + 10]) as u64, b' ')?;
-    print_number(to, wide(records[at + 11]) as u64, b'\n')
+    print_lines(to, list, ENTRY_BYTES, |to, entry| print_entry(to, entry))
 }
 
 // Piece records, one a line.
 pub fn print_records<W: Write>(to: &mut W, records: &[u8]) -> io::Result<()>
     ensures { OnOk result (Appends (W.contents to.old) (W.contents to.new) (record_lines records.now)) }
 {
-    let mut at: usize = 0;
-    while RECORD_BYTES <= records.len() - at {
-        print_record(to, records, at)?;
-        at += RECORD_BYTES;
-    }
-    Ok(())
+    print_lines(
+        to,
+        records,
+        RECORD_BYTES,
+        |to, record| print_record(to, record),
+    )
 }

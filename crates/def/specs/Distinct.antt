@@ -7,7 +7,8 @@ use Rattle.paths.specs.declared.Point.{Point}
 use Rattle.paths.specs.Form.{points_of}
 use Rattle.paths.specs.Again.{first_read, stands_within}
 use Rattle.paths.specs.AgainLaws.{passes, first-whole}
-use Rattle.routes.specs.Nodes.{Node, node_at, stands_at, stands_on, known, number_on, made_by, reach, nodes_from, no_point, route_nodes}
+use Rattle.routes.specs.declared.Node.{Node}
+use Rattle.routes.specs.Nodes.{node_at, stands_at, stands_on, known, number_on, made_by, reach, nodes_from, no_point, route_nodes}
 use Rattle.routes.specs.KnownRead.{known_read}
 use Rattle.routes.specs.Reaching.{length_more, node-before, node_at_end, reach-known, reach-new}
 

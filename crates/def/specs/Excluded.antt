@@ -10,8 +10,8 @@ use Rattle.laws.specs.Gather.{gather}
 use Rattle.net.specs.declared.Answer.{Answer}
 use Rattle.net.specs.File.{head_of, file_of}
 use Rattle.net.specs.Refusal.{first_of, sections_refusal, node_refusal, wire_refusal, obstacle_refusal, is_version, net_refusal, write_refusal}
-use Rattle.words.specs.Words.{blank, leading, word_start, word_end, spelling, same, digit, digits, value_from, is_number, layer_digits, layer_of}
-use Rattle.paths.specs.Form.{is_coordinate, coordinate, point_from, path_from, behind, beginning, point_in, onward, read_points, read_ending, start, points_of, ending_of}
+use Rattle.words.specs.Words.{blank, word_start, word_end, spelling, digit, digits, value_from, is_number, layer_digits, layer_of}
+use Rattle.paths.specs.Form.{coordinate, point_from, path_from, behind, beginning, point_in, onward, read_points, read_ending, start, points_of, ending_of}
 use Rattle.routes.specs.Nodes.{known_at, lowest_at, known, number_on, made_by, reach, nodes_from, point_refused, points_refusal, form_refusal, route_refusal, route_nodes, end_of, route_end}
 use Rattle.def.specs.Pins.{pin_refusal, pins_refusal, flags_of}
 use Rattle.def.specs.Sections.{node_record, node_section, wire_section}
@@ -77,5 +77,5 @@ pub record SmallTexts : Type 0 where
   pub via_down : def_wires (bytes_of "+ ROUTED metal2 ( 0 0 ) ( 5 0 ) NEW metal1 ( 5 0 ) ( 5 5 ) ;") 0 ≡ 0 ∷ 2 ∷ 1 ∷ 1 ∷ 2 ∷ 1 ∷ 2 ∷ 1 ∷ 1 ∷ []
 
 pub small_texts : SmallTexts
-unfolding blank leading word_start word_end spelling same digit digits value_from is_number layer_digits layer_of is_coordinate coordinate point_from path_from behind beginning point_in onward read_points read_ending start points_of ending_of known_at lowest_at known number_on made_by reach nodes_from point_refused points_refusal form_refusal route_refusal route_nodes end_of route_end any lowest gather first_of sections_refusal node_refusal wire_refusal obstacle_refusal is_version net_refusal write_refusal head_of file_of pin_refusal pins_refusal flags_of node_record node_section wire_section def_refusal def_answer def_buffer
+unfolding blank word_start word_end spelling digit digits value_from is_number layer_digits layer_of coordinate point_from path_from behind beginning point_in onward read_points read_ending start points_of ending_of known_at lowest_at known number_on made_by reach nodes_from point_refused points_refusal form_refusal route_refusal route_nodes end_of route_end any lowest gather first_of sections_refusal node_refusal wire_refusal obstacle_refusal is_version net_refusal write_refusal head_of file_of pin_refusal pins_refusal flags_of node_record node_section wire_section def_refusal def_answer def_buffer
 small_texts = record { answered = refl; written = refl; wrong_word = refl; cut_word = refl; no_word = refl; next_text = refl; past_end = refl; star_first = refl; star_new = refl; one_point = refl; not_whole = refl; known_point = refl; unknown_start = refl; eighteen_first = refl; no_node = refl; cut_pin = refl; six = refl; six_nine = refl; seven = refl; ten = refl; eleven = refl; sixteen = refl; joined = refl; via_down = refl }

@@ -1,30 +1,70 @@
 -- What the pass over the pins shows: a pin's node, the flags joined, and which pin is refused.
 -- Assumes nothing.
-use Rattle.std.specs.Prelude.{ℕ, ◌+◌, ◌-◌, ◌*◌, ◌<◌, ◌≤◌, ◌≡◌, true, false, List, eqb, ltb, length, take, drop, get_or, set}
-use Rattle.std.proofs.Common.{◌∙◌, sym, ap, add-one, arith, get_or-take, get_or-drop, get_or-set_same, get_or-set_other, eqb-true, ltb-true, lt-ltb, le-ltb}
+use Rattle.std.specs.Prelude.{ℕ, ◌+◌, ◌-◌, ◌*◌, ◌<◌, ◌≤◌, ◌≡◌, true, false, cond, List, Option, Some, None, IsSomeAnd, refl, eqb, ltb, length, take, drop, get_or, set}
+use Rattle.std.proofs.Common.{◌∙◌, sym, ap, add-one, arith, get_or-take, get_or-drop, get_or-set_same, get_or-set_other, eqb-true, ltb-true, ltb-false, lt-ltb, le-ltb}
+use denote.Ref.{Bor}
 use Rattle.std.proofs.Math.Bool.{not}
+use Rattle.std.specs.Int.{div_ceil}
 use Rattle.std.specs.Int.Bits.{bit_or, or_zero_r}
 use Rattle.std.proofs.lemmas.Bool.{eqb-false}
 use Rattle.laws.specs.Sums.{by, not_true_false, or_right, lowest-passes}
 use Rattle.net.specs.Layout.{most_nodes}
 use Rattle.net.specs.Refusal.{none, refusal}
-use Rattle.routes.specs.Nodes.{Node, node_at, stands_on, known, number_on, route_nodes}
-use Rattle.routes.specs.Table.{counted}
-use Rattle.routes.specs.Placing.{number-below}
+use Rattle.routes.specs.declared.Node.{Node}
+use Rattle.routes.specs.Nodes.{node_at, stands_on, known, number_on, route_nodes}
+use Rattle.routes.specs.declared.Route.{Route}
+use Rattle.routes.specs.Table.{counted, IsRoute}
+use Rattle.routes.specs.Holding.{holds_all}
+use Rattle.routes.specs.Placing.{number-below, some_held}
 use Rattle.def.specs.Pins.{pin_bytes, pin_x, pin_y, pin_layer, pin_flags, pin_count, pin_refusal, flags_of}
-use Rattle.def.specs.Joining.{Joined, JoinedOne}
+use Rattle.def.specs.Joining.{Routed, Joined, JoinedOne}
 use Rattle.def.specs.Distinct.{stands-alone}
 
--- the table has all nodes where it counts them
-pub count-few : (count n : ℕ) → count ≡ counted n → count ≤ most_nodes → count ≡ n
-count-few count n e h = by (ltb most_nodes n) (λ t. absurd (let a : count ≡ 257 = e ∙ rw t in omega arith)) (λ f. e ∙ rw f)
+-- the nodes that the table has
+found-few : (n m : ℕ) → Some m ≡ counted n → (m ≡ n) × (n ≤ most_nodes)
+found-few n m e =
+    by (ltb most_nodes n)
+    (λ y. let q = rw y at e in cc)
+    (λ z. let q = rw z at e in let l = ltb-false most_nodes n z in (cc, l))
 
-pub count-many : (count n : ℕ) → count ≡ counted n → most_nodes < count → most_nodes < n
-count-many count n e h = by (ltb most_nodes n) (λ t. ltb-true most_nodes n t) (λ f. let a : count ≡ n = e ∙ rw f in omega arith)
+found-many : (n : ℕ) → None ≡ counted n → most_nodes < n
+found-many n e = by (ltb most_nodes n) (λ y. ltb-true most_nodes n y) (λ z. let q = rw z at e in cc)
 
--- the table has a node there if its number is below the count
-pub number-known : (nodes : List Node) (x y layer n count : ℕ) → n ≡ number_on nodes x y layer → count ≡ length nodes → ltb n count ≡ known nodes x y layer
-number-known nodes x y layer n count e h = rw (e, h) (number-below nodes x y layer)
+pub routed : {text : List ℕ} {place : ℕ} {r : Route} (nodes : Option (Bor (List Node))) → IsRoute text place r
+    → (r.count ≡ None → nodes ≡ None)
+    → ((n : ℕ) → r.count ≡ Some n → n ≤ most_nodes → IsSomeAnd nodes (λ x. (x.now ≡ take n r.nodes) × (length x.now ≡ n)))
+    → Routed text place r.points nodes
+routed {text} {place} {r} nodes i none some = counts r.count refl
+  where
+    counts : (o : Option ℕ) → r.count ≡ o → Routed text place r.points nodes
+    counts None e =
+        record {
+          points = i.points;
+          few = λ n q. let z : None ≡ Some n = cc (none e) in cc;
+          many = λ q. found-many (length (route_nodes text place)) (sym e ∙ i.count);
+        }
+    counts (Some m) e =
+        let f = found-few (length (route_nodes text place)) m (sym e ∙ i.count) in
+        let h = some m e (omega (arith, f)) in
+        record {
+          points = i.points;
+          few = λ n q. let k = rw q at h in (k.0 ∙ rw f.0 (holds_all i.table f.1 (rw (← f.0, ← k.0) k.1)), f.1);
+          many = λ q. let k = rw q at h in absurd k;
+        }
+
+-- the node that was found is the one that the pin meets
+pub pin-node : {text : List ℕ} {place points : ℕ} {all : Option (Bor (List Node))} (pins : List ℕ) {x y node : ℕ} {found : Option ℕ} → Routed text place points all
+    → (n : Bor (List Node)) → all ≡ Some n → x ≡ pin_x pins 0 → y ≡ pin_y pins 0
+    → found ≡ cond (known n.now x y (pin_layer pins 0)) (Some (number_on n.now x y (pin_layer pins 0))) None → found ≡ Some node
+    → (known (route_nodes text place) (pin_x pins 0) (pin_y pins 0) (pin_layer pins 0) ≡ true)
+    × (node ≡ number_on (route_nodes text place) (pin_x pins 0) (pin_y pins 0) (pin_layer pins 0))
+    × (node < most_nodes)
+pin-node {text} {place} pins {x} {y} r n e p q f s =
+    let few = r.few n e in
+    let layer = pin_layer pins 0 in
+    let h = rw (few.0, p, q) at (some_held (known n.now x y layer) (number_on n.now x y layer) f s) in
+    let b = ltb-true _ _ (number-below (route_nodes text place) (pin_x pins 0) (pin_y pins 0) layer ∙ h.0) in
+    (h.0, h.1, omega (arith, few.1, h.1, b))
 
 -- the flags of pin 0 joined to those of the node that it meets
 pub joined-one : (text : List ℕ) (place : ℕ) (pins flags : List ℕ) (n : ℕ)
@@ -83,12 +123,9 @@ pub joined-start : (nodes : List Node) (pins flags : List ℕ) → ((i : ℕ) �
 unfolding flags_of
 joined-start nodes pins flags z = record { each = λ few i l. z i }
 
--- which pins there are
-pub pin-here : (pins : List ℕ) (k : ℕ) → pin_bytes * k < length pins → k < pin_count pins
-pin-here pins k h = omega arith
-
-pub pin-all : (pins : List ℕ) (k : ℕ) → pin_bytes * k ≡ length pins → k ≡ pin_count pins
-pin-all pins k e = omega arith
+-- how many pins there are
+pub pins-counted : (pins : List ℕ) → div_ceil (length pins) pin_bytes ≡ pin_count pins
+pins-counted pins = omega arith
 
 -- pin k is cut short, meets no node, or meets one
 module _ (nodes : List Node) (pins : List ℕ) (k : ℕ) where

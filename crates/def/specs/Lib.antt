@@ -6,7 +6,6 @@ pub mod Written
 pub mod Joining
 pub mod Distinct
 pub mod WrittenLaws
-pub mod Ending
 pub mod JoiningLaws
 pub mod Sectioning
 pub mod Answering

@@ -1,6 +1,6 @@
 -- Theorem: which numbers the call can answer with. 5, 8 and 9 never: the wire section that it makes has its right length, each parent in it is below its wire, layers are 1 to 16 and factors 1. Nor 2 and 20: the call writes version 1, whose obstacles read as layer 16.
 -- Assumes nothing.
-use Rattle.std.specs.Prelude.{ℕ, zero, suc, ◌+◌, ◌-◌, ◌*◌, ◌%◌, ◌<◌, ◌≡◌, refl, Bool, true, false, ◌&&◌, ◌||◌, List, [], ◌∷◌, eqb, length}
+use Rattle.std.specs.Prelude.{ℕ, zero, suc, ◌+◌, ◌-◌, ◌*◌, ◌%◌, ◌<◌, ◌≡◌, refl, Bool, true, false, ◌&&◌, ◌||◌, List, [], ◌∷◌, Result, Ok, Err, eqb, length}
 use Rattle.std.proofs.Math.Bool.{not}
 use Rattle.std.proofs.Math.Nat.{add-zero}
 use native.Mathlib.Omega.{arith}
@@ -14,9 +14,10 @@ use Rattle.net.specs.File.{file_bytes}
 use Rattle.net.specs.Refusal.{Verdict, refused_if, met, or_else, first_of, sections_refusal, node_refusal, wire_refusal, obstacle_refusal, is_version, net_refusal, write_refusal}
 use Rattle.paths.specs.declared.Point.{Point}
 use Rattle.paths.specs.declared.Read.{Read}
-use Rattle.paths.specs.declared.Read.TheVariants.{Wrong, End, Whole}
+use Rattle.paths.specs.declared.Wrong.{Wrong}
 use Rattle.paths.specs.Form.{points_of, ending_of}
-use Rattle.routes.specs.Nodes.{Node, node_at, known, no_point, reach, point_refused, points_refusal, form_refusal, route_refusal, route_nodes}
+use Rattle.routes.specs.declared.Node.{Node}
+use Rattle.routes.specs.Nodes.{node_at, known, no_point, reach, point_refused, points_refusal, form_refusal, route_refusal, route_nodes}
 use Rattle.routes.specs.Hanging.{Hung, nodes-hung}
 use Rattle.def.specs.Pins.{pin_bytes, pin_x, pin_y, pin_layer, pin_count, pin_refusal, pins_refusal}
 use Rattle.def.specs.Sections.{node_section, wire_record, wire_section}
@@ -56,11 +57,10 @@ points-listed nodes before [] = record { number = refl }
 points-listed nodes before (p ∷ points) =
     listed-or (listed_if (point_refused nodes p) 18 p.at refl) (λ u. points-listed (reach nodes before p) p points)
 
-form_listed : (r : Read) → Listed (form_refusal r)
+form_listed : (r : Result Read Wrong) → Listed (form_refusal r)
 unfolding form_refusal
-form_listed (Wrong at) = record { number = refl }
-form_listed (End next) = record { number = refl }
-form_listed (Whole p next) = record { number = refl }
+form_listed (Err w) = record { number = refl }
+form_listed (Ok read) = record { number = refl }
 
 route_listed : (text : List ℕ) (place : ℕ) → Listed (route_refusal text place)
 unfolding route_refusal

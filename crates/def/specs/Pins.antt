@@ -4,7 +4,8 @@ use Rattle.std.specs.Prelude.{ℕ, zero, suc, ◌+◌, ◌*◌, ◌/◌, not, �
 use Rattle.std.specs.Int.Bits.{bit_or}
 use Rattle.laws.specs.Bytes.{le16}
 use Rattle.net.specs.Refusal.{Verdict, refused_if, first_of}
-use Rattle.routes.specs.Nodes.{Node, stands_on, known}
+use Rattle.routes.specs.declared.Node.{Node}
+use Rattle.routes.specs.Nodes.{stands_on, known}
 
 -- pins come as x, y (16 bits each), layer, flags (8 each)
 abbrev pub pin_bytes : ℕ

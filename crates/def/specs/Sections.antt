@@ -3,7 +3,8 @@
 use Rattle.std.specs.Prelude.{ℕ, ◌+◌, ◌-◌, List, [], ◌∷◌, ◌++◌, length}
 use Rattle.laws.specs.Bytes.{bytes16}
 use Rattle.laws.specs.Gather.{gather}
-use Rattle.routes.specs.Nodes.{Node, node_at}
+use Rattle.routes.specs.declared.Node.{Node}
+use Rattle.routes.specs.Nodes.{node_at}
 use Rattle.def.specs.Pins.{pin_count, flags_of}
 
 -- a node: x, y, flags

@@ -1,12 +1,16 @@
 -- Laws of the sections as they are written: their lengths.
 -- Assumes nothing.
-use Rattle.std.specs.Prelude.{ℕ, ◌+◌, ◌*◌, ◌≡◌, refl, List, length, get_or}
+use Rattle.std.specs.Prelude.{ℕ, ◌-◌, ◌*◌, ◌≡◌, ◌+◌, refl, List, length, get_or}
 use Rattle.laws.specs.Gathers.{length-records}
 use Rattle.net.specs.Layout.{node_bytes, wire_bytes}
-use Rattle.def.specs.Written.{entry_node, entry_wire, table_nodes, table_wires}
+use Rattle.routes.specs.declared.Node.{Node}
+use Rattle.routes.specs.Nodes.{node_at}
+use Rattle.def.specs.Sections.{wire_record, wire_section}
+use Rattle.def.specs.Written.{flagged_node, flagged_nodes}
 
-pub length-nodes : (table flags : List ℕ) (n : ℕ) → length (table_nodes table flags n) ≡ node_bytes * n
-length-nodes table flags = length-records node_bytes (λ i. entry_node (get_or table i 0) (get_or flags i 0)) (λ i. refl)
+pub length-nodes : (nodes : List Node) (flags : List ℕ) → length (flagged_nodes nodes flags) ≡ node_bytes * length nodes
+length-nodes nodes flags = length-records node_bytes (λ i. flagged_node (node_at nodes i) (get_or flags i 0)) (λ i. refl) (length nodes)
 
-pub length-wires : (table : List ℕ) (n : ℕ) → length (table_wires table n) ≡ wire_bytes * n
-length-wires table = length-records wire_bytes (λ i. entry_wire (get_or table (i + 1) 0)) (λ i. refl)
+pub length-wires : (nodes : List Node) → length (wire_section nodes) ≡ wire_bytes * (length nodes - 1)
+unfolding wire_section
+length-wires nodes = length-records wire_bytes (λ i. wire_record (node_at nodes (i + 1))) (λ i. refl) (length nodes - 1)

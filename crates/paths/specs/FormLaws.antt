@@ -2,19 +2,19 @@
 -- Assumes nothing.
 use Prim.Native.Nat.{ℕ, zero, suc, ◌+◌, ◌-◌, ◌<◌, ◌≤◌}
 use Rattle.std.proofs.Math.Path.{◌≡◌, refl, sym, ap}
-use Rattle.std.specs.Prelude.{Bool, not, ◌&&◌, cond, ltb, length, get_or}
+use Rattle.std.specs.Prelude.{Bool, not, ◌&&◌, cond, Option, Some, None, option_map, is_none, Result, Ok, Err, ltb, length, get_or}
 use Rattle.std.proofs.Math.Bool.{true, false}
 use mathlib.Core.List.{List, [], ◌∷◌, ◌++◌}
 use native.Mathlib.Omega.{arith}
 use Rattle.std.proofs.Common.{add-zero, ltb-true, ltb-false}
 use Rattle.laws.specs.Sums.{by, and_right}
-use Rattle.words.specs.Words.{word_from, same, open_word, close_word, plus_word, routed_word, end_word, new_word, layer_of}
+use Rattle.words.specs.Words.{word_from, same, open_word, close_word, plus_word, routed_word, star_word, end_word, new_word, digits, is_number, number_of, spelled_number, layer_of}
 use Rattle.words.specs.WordsLaws.{place-≤-at, at-≤-next, next_fits, word_next, word_byte, layer-most}
 use Rattle.paths.specs.declared.Point.{Point}
+use Rattle.paths.specs.declared.Wrong.{Wrong}
 use Rattle.paths.specs.declared.Read.{Read}
-use Rattle.paths.specs.declared.Read.TheVariants.{Wrong, End, Whole}
-use Rattle.paths.specs.Form.{word_at, after, must, point_from, path_from, behind, beginning, point_in, onward, read_points, read_ending, start, points_of, ending_of, is_coordinate}
-use Rattle.paths.specs.Reading.{coordinate-below}
+use Rattle.paths.specs.declared.Read.TheVariants.{End, Whole}
+use Rattle.paths.specs.Form.{word_at, after, must, must_be, point_from, path_from, behind, beginning, point_in, onward, read_points, read_ending, start, points_of, ending_of, coordinate}
 
 -- the ranges of the numbers of a point
 pub record InRange (p : Point) : Type 0 where
@@ -23,23 +23,41 @@ pub record InRange (p : Point) : Type 0 where
   pub layer_low : 0 < p.layer
   pub layer_high : p.layer ≤ 16
 
+-- a number is below 65,536, and so is a coordinate
+number-below : (w : List ℕ) (v : ℕ) → spelled_number w ≡ Some v → v < 65536
+unfolding is_number
+number-below w v =
+    by (is_number w)
+    (λ y. rw y
+    (λ e. let z : number_of w ≡ v = cc in rw z at (ltb-true _ _ (and_right (digits w) _ (and_right (ltb (length w) 6) _ (and_right (ltb 0 (length w)) _ y))))))
+    (λ z. rw z (λ e. cc))
+
+coordinate-below : (before : Option Point) (f : Point → ℕ) → ((p : Point) → before ≡ Some p → f p < 65536)
+    → (w : List ℕ) (v : ℕ) → coordinate (option_map f before) w ≡ Some v → v < 65536
+unfolding coordinate
+coordinate-below before f r w v = by (same w star_word) (λ y. rw y (repeated before r)) (λ z. rw z (number-below w v))
+  where
+    repeated : (b : Option Point) → ((p : Point) → b ≡ Some p → f p < 65536) → option_map f b ≡ Some v → v < 65536
+    repeated (Some p) q e = let z : f p ≡ v = cc in rw z at (q p refl)
+    repeated None q e = cc
+
 -- what was read from a place on, where no end may stand, lies behind it and within the text
-abbrev pub Starts : List ℕ → ℕ → Read → Type 0
-Starts text place (Wrong at) = (place ≤ at) × (at ≤ length text)
-Starts text place (End next) = ⊥
-Starts text place (Whole p next) = (place ≤ p.at) × (p.at < next) × (next ≤ length text) × InRange p
+abbrev pub Starts : List ℕ → ℕ → Result Read Wrong → Type 0
+Starts text place (Err w) = (place ≤ w.0) × (w.0 ≤ length text)
+Starts text place (Ok (End next)) = ⊥
+Starts text place (Ok (Whole p next)) = (place ≤ p.at) × (p.at < next) × (next ≤ length text) × InRange p
 
 -- the same where an end may stand: the byte before it is `;`
-abbrev pub Sound : List ℕ → ℕ → Read → Type 0
-Sound text place (Wrong at) = Starts text place (Wrong at)
-Sound text place (End next) = (place < next) × (next ≤ length text) × (get_or text (next - 1) 0 ≡ 59)
-Sound text place (Whole p next) = Starts text place (Whole p next)
+abbrev pub Sound : List ℕ → ℕ → Result Read Wrong → Type 0
+Sound text place (Err w) = Starts text place (Err w)
+Sound text place (Ok (End next)) = (place < next) × (next ≤ length text) × (get_or text (next - 1) 0 ≡ 59)
+Sound text place (Ok (Whole p next)) = Starts text place (Ok (Whole p next))
 
 -- how much is left behind a whole point: a measure of reading on
-unfoldable pub left : List ℕ → Read → ℕ
-left text (Wrong at) = 0
-left text (End next) = 0
-left text (Whole p next) = suc (length text - next)
+unfoldable pub left : List ℕ → Result Read Wrong → ℕ
+left text (Err w) = 0
+left text (Ok (End next)) = 0
+left text (Ok (Whole p next)) = suc (length text - next)
 
 -- every point of a list is in range
 unfoldable pub AllInRange : List Point → Type 0
@@ -47,15 +65,15 @@ AllInRange [] = Unit {0}
 AllInRange (p ∷ l) = InRange p × AllInRange l
 
 module _ (text : List ℕ) where
-  starts_sound : (place : ℕ) (r : Read) → Starts text place r → Sound text place r
-  starts_sound place (Wrong at) s = s
-  starts_sound place (End next) s = absurd s
-  starts_sound place (Whole p next) s = s
+  starts_sound : (place : ℕ) (r : Result Read Wrong) → Starts text place r → Sound text place r
+  starts_sound place (Err w) s = s
+  starts_sound place (Ok (End next)) s = absurd s
+  starts_sound place (Ok (Whole p next)) s = s
 
-  sound-before : (place later : ℕ) (r : Read) → place ≤ later → Sound text later r → Sound text place r
-  sound-before place later (Wrong at) h s = (omega arith, s.1)
-  sound-before place later (End next) h s = (omega arith, s.1, s.2)
-  sound-before place later (Whole p next) h s = (omega arith, s.1, s.2, s.3)
+  sound-before : (place later : ℕ) (r : Result Read Wrong) → place ≤ later → Sound text later r → Sound text place r
+  sound-before place later (Err w) h s = (omega arith, s.1)
+  sound-before place later (Ok (End next)) h s = (omega arith, s.1, s.2)
+  sound-before place later (Ok (Whole p next)) h s = (omega arith, s.1, s.2, s.3)
 
   -- the word from a place on, and one of a single byte
   word_within : (place : ℕ) → place ≤ length text → (place ≤ (word_from text place).at) × ((word_from text place).at ≤ after text place) × (after text place ≤ length text)
@@ -66,16 +84,21 @@ module _ (text : List ℕ) where
   byte_word place b h e = (word_next text place h (b ∷ []) e, rw add-zero at (word_byte text place h (b ∷ []) e 0 (omega arith)))
 
   -- the word from a place on has to pass a test
-  must_starts : (from place : ℕ) (t : Bool) (rest : Read) → from ≤ place → place ≤ length text → (t ≡ true → Starts text from rest)
+  must_starts : (from place : ℕ) (t : Bool) (rest : Result Read Wrong) → from ≤ place → place ≤ length text → (t ≡ true → Starts text from rest)
       → Starts text from (must text place t rest)
   must_starts from place true rest g h s = s refl
   must_starts from place false rest g h s = let w = word_within place h in (omega arith, omega arith)
 
+  must_be_starts : (from place : ℕ) (o : Option ℕ) (rest : ℕ → Result Read Wrong) → from ≤ place → place ≤ length text
+      → ((v : ℕ) → o ≡ Some v → Starts text from (rest v)) → Starts text from (must_be text place o rest)
+  must_be_starts from place (Some v) rest g h s = s v refl
+  must_be_starts from place None rest g h s = let w = word_within place h in (omega arith, omega arith)
+
   module _ (from place : ℕ) (g : from ≤ place) (h : place ≤ length text) where
-    point_starts : (layer : ℕ) (first : Bool) (bx by : ℕ) → 0 < layer → layer ≤ 16 → bx < 65536 → by < 65536
-        → Starts text from (point_from text place layer first bx by)
+    point_starts : (layer : ℕ) (before : Option Point) → (0 < layer) × (layer ≤ 16) → ((p : Point) → before ≡ Some p → InRange p)
+        → Starts text from (point_from text place layer before)
     unfolding point_from
-    point_starts layer first bx by l m p q =
+    point_starts layer before l r =
         let x = after text place in
         let y = after text x in
         let z = after text y in
@@ -83,19 +106,22 @@ module _ (text : List ℕ) where
         let i = word_within x o.2 in
         let j = word_within y i.2 in
         let k = word_within z j.2 in
+        let read = λ (u v : ℕ). Ok (Whole (record { at = (word_from text place).at; layer = layer; first = is_none before; x = u; y = v }) (after text z)) in
+        let closed = λ (u v : ℕ). must text z (same (word_at text z) close_word) (read u v) in
+        let at_y = λ (u : ℕ). must_be text y (coordinate (option_map (λ p. p.y) before) (word_at text y)) (closed u) in
         must_starts from place (same (word_at text place) open_word) _ g h
-        (λ t. must_starts from x (is_coordinate first (word_at text x)) _ (omega arith) o.2
-        (λ u. must_starts from y (is_coordinate first (word_at text y)) _ (omega arith) i.2
-        (λ v. must_starts from z (same (word_at text z) close_word) _ (omega arith) j.2
+        (λ t. must_be_starts from x _ at_y (omega arith) o.2
+        (λ u e. must_be_starts from y _ (closed u) (omega arith) i.2
+        (λ v f. must_starts from z (same (word_at text z) close_word) (read u v) (omega arith) j.2
         (λ w. (
           omega arith,
           omega (arith, (byte_word place 40 h t).0),
           k.2,
           record {
-            x = coordinate-below bx (word_at text x) first p u;
-            y = coordinate-below by (word_at text y) first q v;
-            layer_low = l;
-            layer_high = m;
+            x = coordinate-below before (λ p. p.x) (λ p q. (r p q).x) (word_at text x) u e;
+            y = coordinate-below before (λ p. p.y) (λ p q. (r p q).y) (word_at text y) v f;
+            layer_low = l.0;
+            layer_high = l.1;
           },
         )))))
 
@@ -103,9 +129,8 @@ module _ (text : List ℕ) where
   unfolding path_from
   path_starts from place g h =
       let w = word_within place h in
-      let layer = layer_of (word_at text place) in
-      must_starts from place (ltb 0 layer) _ g h
-      (λ t. point_starts from (after text place) (omega arith) w.2 layer true 0 0 (ltb-true 0 layer t) (layer-most (word_at text place)) (omega arith) (omega arith))
+      must_be_starts from place (layer_of (word_at text place)) _ g h
+      (λ l e. point_starts from (after text place) (omega arith) w.2 l None (layer-most (word_at text place) l e) (λ p q. cc))
 
   beginning_starts : (place : ℕ) → place ≤ length text → Starts text place (beginning text place)
   unfolding beginning
@@ -120,11 +145,11 @@ module _ (text : List ℕ) where
   pub beginning-sound : (place : ℕ) → place ≤ length text → Sound text place (beginning text place)
   beginning-sound place h = starts_sound place (beginning text place) (beginning_starts place h)
 
-  pub beginning_not_end : (place next : ℕ) → place ≤ length text → beginning text place ≡ End next → ⊥
+  pub beginning_not_end : (place next : ℕ) → place ≤ length text → beginning text place ≡ Ok (End next) → ⊥
   beginning_not_end place next h e = rw e at (beginning_starts place h)
 
   -- one of two
-  cond-sound : (place : ℕ) (t : Bool) (a b : Read) → (t ≡ true → Sound text place a) → Sound text place b → Sound text place (cond t a b)
+  cond-sound : (place : ℕ) (t : Bool) (a b : Result Read Wrong) → (t ≡ true → Sound text place a) → Sound text place b → Sound text place (cond t a b)
   cond-sound place true a b p q = p refl
   cond-sound place false a b p q = q
 
@@ -133,8 +158,8 @@ module _ (text : List ℕ) where
   behind-sound place q h f =
       let x = after text place in
       let w = word_within place h in
-      let point = point_from text place q.layer false q.x q.y in
-      cond-sound place (not q.first && same (word_at text place) end_word) (End x) _
+      let point = point_from text place q.layer (Some q) in
+      cond-sound place (not q.first && same (word_at text place) end_word) (Ok (End x)) _
       (λ e.
       let b = byte_word place 59 h (and_right (not q.first) _ e) in
       let n : x - 1 ≡ (word_from text place).at = omega arith in
@@ -142,109 +167,109 @@ module _ (text : List ℕ) where
       (cond-sound place (not q.first && same (word_at text place) new_word) (path_from text x) point
       (λ e. starts_sound place (path_from text x) (path_starts place x (omega arith) w.2))
       (starts_sound place point
-      (point_starts place place (omega arith) h q.layer false q.x q.y f.layer_low f.layer_high f.x f.y)))
+      (point_starts place place (omega arith) h q.layer (Some q) (f.layer_low, f.layer_high) (λ p e. let z : q ≡ p = cc in rw z at f))))
 
-  pub sound-from : (place : ℕ) (r : Read) → Sound text place r → Sound text 0 r
+  pub sound-from : (place : ℕ) (r : Result Read Wrong) → Sound text place r → Sound text 0 r
   sound-from place r s = sound-before 0 place r (omega arith) s
 
   -- reading on
-  onward-sound : (place : ℕ) (r : Read) → Sound text place r → Sound text place (onward text r)
+  onward-sound : (place : ℕ) (r : Result Read Wrong) → Sound text place r → Sound text place (onward text r)
   unfolding onward
-  onward-sound place (Wrong at) s = s
-  onward-sound place (End next) s = s
-  onward-sound place (Whole p next) s = sound-before place next (behind text next p) (omega arith) (behind-sound next p s.2 s.3)
+  onward-sound place (Err w) s = s
+  onward-sound place (Ok (End next)) s = s
+  onward-sound place (Ok (Whole p next)) s = sound-before place next (behind text next p) (omega arith) (behind-sound next p s.2 s.3)
 
-  pub left-most : (place : ℕ) (r : Read) → Sound text place r → left text r ≤ length text - place
+  pub left-most : (place : ℕ) (r : Result Read Wrong) → Sound text place r → left text r ≤ length text - place
   unfolding left
-  left-most place (Wrong at) s = omega arith
-  left-most place (End next) s = omega arith
-  left-most place (Whole p next) s = omega arith
+  left-most place (Err w) s = omega arith
+  left-most place (Ok (End next)) s = omega arith
+  left-most place (Ok (Whole p next)) s = omega arith
 
-  pub behind-left : (p : Point) (next : ℕ) → Sound text 0 (Whole p next) → left text (behind text next p) < left text (Whole p next)
+  pub behind-left : (p : Point) (next : ℕ) → Sound text 0 (Ok (Whole p next)) → left text (behind text next p) < left text (Ok (Whole p next))
   unfolding left
   behind-left p next s = omega (arith, left-most next (behind text next p) (behind-sound next p s.2 s.3))
 
-  onward-left : (n : ℕ) (r : Read) → Sound text 0 r → left text r ≤ suc n → left text (onward text r) ≤ n
+  onward-left : (n : ℕ) (r : Result Read Wrong) → Sound text 0 r → left text r ≤ suc n → left text (onward text r) ≤ n
   unfolding left onward
-  onward-left n (Wrong at) s h = omega arith
-  onward-left n (End next) s h = omega arith
-  onward-left n (Whole p next) s h = omega (arith, behind-left p next s)
+  onward-left n (Err w) s h = omega arith
+  onward-left n (Ok (End next)) s h = omega arith
+  onward-left n (Ok (Whole p next)) s h = omega (arith, behind-left p next s)
 
   -- what leaves the form or ends
-  pub points_wrong : (n at : ℕ) → read_points n text (Wrong at) ≡ []
+  pub points_wrong : (n : ℕ) (w : Wrong) → read_points n text (Err w) ≡ []
   unfolding read_points point_in onward
-  points_wrong zero at = refl
-  points_wrong (suc n) at = points_wrong n at
+  points_wrong zero w = refl
+  points_wrong (suc n) w = points_wrong n w
 
-  pub points-end : (n next : ℕ) → read_points n text (End next) ≡ []
+  pub points-end : (n next : ℕ) → read_points n text (Ok (End next)) ≡ []
   unfolding read_points point_in onward
   points-end zero next = refl
   points-end (suc n) next = points-end n next
 
-  pub ending_wrong : (n at : ℕ) → read_ending n text (Wrong at) ≡ Wrong at
+  pub ending_wrong : (n : ℕ) (w : Wrong) → read_ending n text (Err w) ≡ Err w
   unfolding read_ending onward
-  ending_wrong zero at = refl
-  ending_wrong (suc n) at = ending_wrong n at
+  ending_wrong zero w = refl
+  ending_wrong (suc n) w = ending_wrong n w
 
-  pub ending-end : (n next : ℕ) → read_ending n text (End next) ≡ End next
+  pub ending-end : (n next : ℕ) → read_ending n text (Ok (End next)) ≡ Ok (End next)
   unfolding read_ending onward
   ending-end zero next = refl
   ending-end (suc n) next = ending-end n next
 
   -- one step more changes nothing where no more is left than there are steps
-  points-more : (n : ℕ) (r : Read) → Sound text 0 r → left text r ≤ n → read_points (suc n) text r ≡ read_points n text r
+  points-more : (n : ℕ) (r : Result Read Wrong) → Sound text 0 r → left text r ≤ n → read_points (suc n) text r ≡ read_points n text r
   unfolding read_points point_in onward left
-  points-more zero (Wrong at) s h = refl
-  points-more zero (End next) s h = refl
-  points-more zero (Whole p next) s h = absurd (omega arith)
+  points-more zero (Err w) s h = refl
+  points-more zero (Ok (End next)) s h = refl
+  points-more zero (Ok (Whole p next)) s h = absurd (omega arith)
   points-more (suc n) r s h = ap (λ (l : List Point). point_in r ++ l) (points-more n (onward text r) (onward-sound 0 r s) (onward-left n r s h))
 
-  ending-more : (n : ℕ) (r : Read) → Sound text 0 r → left text r ≤ n → read_ending (suc n) text r ≡ read_ending n text r
+  ending-more : (n : ℕ) (r : Result Read Wrong) → Sound text 0 r → left text r ≤ n → read_ending (suc n) text r ≡ read_ending n text r
   unfolding read_ending onward left
-  ending-more zero (Wrong at) s h = refl
-  ending-more zero (End next) s h = refl
-  ending-more zero (Whole p next) s h = absurd (omega arith)
+  ending-more zero (Err w) s h = refl
+  ending-more zero (Ok (End next)) s h = refl
+  ending-more zero (Ok (Whole p next)) s h = absurd (omega arith)
   ending-more (suc n) r s h = ending-more n (onward text r) (onward-sound 0 r s) (onward-left n r s h)
 
-  module _ (p : Point) (next : ℕ) (s : Sound text 0 (Whole p next)) where
+  module _ (p : Point) (next : ℕ) (s : Sound text 0 (Ok (Whole p next))) where
     pub sound-step : Sound text 0 (behind text next p)
     unfolding onward
-    sound-step = onward-sound 0 (Whole p next) s
+    sound-step = onward-sound 0 (Ok (Whole p next)) s
 
     few : left text (behind text next p) ≤ length text
     few = omega (arith, left-most 0 (behind text next p) sound-step)
 
-    pub points-step : read_points (suc (length text)) text (Whole p next) ≡ p ∷ read_points (suc (length text)) text (behind text next p)
+    pub points-step : read_points (suc (length text)) text (Ok (Whole p next)) ≡ p ∷ read_points (suc (length text)) text (behind text next p)
     unfolding read_points point_in onward
     points-step = ap (λ (l : List Point). p ∷ l) (sym (points-more (length text) (behind text next p) sound-step few))
 
-    pub ending-step : read_ending (suc (length text)) text (Whole p next) ≡ read_ending (suc (length text)) text (behind text next p)
+    pub ending-step : read_ending (suc (length text)) text (Ok (Whole p next)) ≡ read_ending (suc (length text)) text (behind text next p)
     unfolding read_ending onward
     ending-step = sym (ending-more (length text) (behind text next p) sound-step few)
 
   -- all of it read
-  read_sound : (n place : ℕ) (r : Read) → Sound text place r → Sound text place (read_ending n text r)
+  read_sound : (n place : ℕ) (r : Result Read Wrong) → Sound text place r → Sound text place (read_ending n text r)
   unfolding read_ending
   read_sound zero place r s = s
   read_sound (suc n) place r s = read_sound n place (onward text r) (onward-sound place r s)
 
-  read_left : (n : ℕ) (r : Read) → Sound text 0 r → left text r ≤ n → left text (read_ending n text r) ≡ 0
+  read_left : (n : ℕ) (r : Result Read Wrong) → Sound text 0 r → left text r ≤ n → left text (read_ending n text r) ≡ 0
   unfolding read_ending
   read_left zero r s h = omega arith
   read_left (suc n) r s h = read_left n (onward text r) (onward-sound 0 r s) (onward-left n r s h)
 
-  read_in_range : (n : ℕ) (r : Read) → Sound text 0 r → AllInRange (read_points n text r)
+  read_in_range : (n : ℕ) (r : Result Read Wrong) → Sound text 0 r → AllInRange (read_points n text r)
   unfolding read_points point_in onward AllInRange
   read_in_range zero r s = tt
-  read_in_range (suc n) (Wrong at) s = read_in_range n (Wrong at) s
-  read_in_range (suc n) (End next) s = read_in_range n (End next) s
-  read_in_range (suc n) (Whole p next) s = (s.3, read_in_range n (behind text next p) (sound-step p next s))
+  read_in_range (suc n) (Err w) s = read_in_range n (Err w) s
+  read_in_range (suc n) (Ok (End next)) s = read_in_range n (Ok (End next)) s
+  read_in_range (suc n) (Ok (Whole p next)) s = (s.3, read_in_range n (behind text next p) (sound-step p next s))
 
-  read_some : (n : ℕ) (r : Read) → ((next : ℕ) → r ≡ End next → ⊥) → (next : ℕ) → read_ending (suc n) text r ≡ End next → 0 < length (read_points (suc n) text r)
+  read_some : (n : ℕ) (r : Result Read Wrong) → ((next : ℕ) → r ≡ Ok (End next) → ⊥) → (next : ℕ) → read_ending (suc n) text r ≡ Ok (End next) → 0 < length (read_points (suc n) text r)
   unfolding read_points point_in
-  read_some n (Wrong at) b next e = let z : ◌≡◌ {A = ℕ} 0 1 = cc (ending_wrong (suc n) at) in absurd (omega arith)
-  read_some n (End end) b next e = absurd (b end refl)
-  read_some n (Whole p end) b next e = omega arith
+  read_some n (Err w) b next e = let z : ◌≡◌ {A = ℕ} 0 1 = cc (ending_wrong (suc n) w) in absurd (omega arith)
+  read_some n (Ok (End end)) b next e = absurd (b end refl)
+  read_some n (Ok (Whole p end)) b next e = omega arith
 
   pub start-within : (place : ℕ) → start text place ≤ length text
   unfolding start
@@ -262,7 +287,7 @@ module _ (text : List ℕ) where
     unfolding ending_of
     ending-sound = read_sound (suc (length text)) (start text place) (beginning text (start text place)) from_start
 
-    pub ending-stops : (p : Point) (next : ℕ) → ending_of text place ≡ Whole p next → ⊥
+    pub ending-stops : (p : Point) (next : ℕ) → ending_of text place ≡ Ok (Whole p next) → ⊥
     unfolding ending_of left
     ending-stops p next e =
         let r = beginning text (start text place) in
@@ -273,7 +298,7 @@ module _ (text : List ℕ) where
     unfolding points_of
     points_in_range = read_in_range (suc (length text)) (beginning text (start text place)) start-sound
 
-    module _ (next : ℕ) (e : ending_of text place ≡ End next) where
+    module _ (next : ℕ) (e : ending_of text place ≡ Ok (End next)) where
       pub end-above : (place < next) × (next ≤ length text) × (get_or text (next - 1) 0 ≡ 59)
       unfolding start
       end-above =

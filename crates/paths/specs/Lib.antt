@@ -1,7 +1,6 @@
 -- The root.
 pub mod Form
 pub mod Again
-pub mod Reading
 pub mod FormLaws
 pub mod AgainLaws
 pub mod Order

@@ -1,14 +1,12 @@
 // The points of a net's routing in a DEF text, read one after another, and read again.
 #![tactic(auto)]
 
-ghost use Rattle.std.specs.Prelude.{◌≡◌, cond, ◌≤◌, ◌<◌, length};
-ghost use Rattle.words.specs.Words.{spelling};
-ghost use Rattle.paths.specs.Form.{is_coordinate, coordinate, point_from, path_from, behind, beginning, start};
+ghost use Rattle.std.specs.Prelude.{◌≡◌, ◌≤◌, true, false, length, MatchResult};
+ghost use Rattle.words.specs.Words.{word_from, same};
+ghost use Rattle.paths.specs.Form.{word_at, after, coordinate, point_from, path_from, behind, beginning, start};
 ghost use Rattle.paths.specs.Again.{stands_within, first_read};
 
-use words::{
-    CLOSE, NO_NUMBER, OPEN, PLUS, SEMICOLON, STAR, Word, is_byte, is_word, layer, number, word_from,
-};
+use words::{Word, word_from};
 
 // A point of a path: the byte of its `(`, the path's layer, whether it is the path's first, and its coordinates.
 #[derive(Clone, Copy)]
@@ -20,133 +18,106 @@ pub struct Point {
     pub y: u16,
 }
 
-// What stands at a place: a word that leaves the form, the end with the place after `;`, or a whole point with the place after its `)`.
+// What stands at a place: the end with the place after `;`, or a whole point with the place after its `)`.
 #[derive(Clone, Copy)]
 pub enum Read {
-    Wrong(usize),
     End(usize),
     Whole(Point, usize),
 }
 
+// The text leaves the form: the first byte of the word that does, or the text's length where it ends early.
+#[derive(Clone, Copy, Debug, PartialEq, Eq)]
+pub struct Wrong(pub usize);
+
 // A place past the text counts as its end.
+#[tactic(auto, unfolding(crate::specs::Form::start))]
 pub fn start_of(text: &[u8], place: usize) -> usize
     ensures { (result ≡ start text.now place) × (result ≤ length text.now) }
 {
-    let end = text.len();
-    if end < place {
-        return end;
-    }
-    place
+    place.min(text.len())
 }
 
 // `+ ROUTED` and the first path's first point.
-pub fn begin(text: &[u8], place: usize) -> Read
-    requires { place ≤ length text.now }
+#[tactic(auto, unfolding(crate::specs::Form::beginning))]
+pub fn begin(text: &[u8], place: usize) -> Result<Read, Wrong>
     ensures { result ≡ beginning text.now place }
 {
-    let sign = word_from(text, place);
-    if !is_byte(text, sign, PLUS) {
-        return Read::Wrong(sign.at);
-    }
-    let word = word_from(text, sign.next);
-    let routed = [82, 79, 85, 84, 69, 68];
-    if !is_word(text, word, &routed) {
-        return Read::Wrong(word.at);
-    }
-    path_from(text, word.next)
+    let sign = word_spelled(text, place, b"+")?;
+    let routed = word_spelled(text, sign.next, b"ROUTED")?;
+    path_from(text, routed.next)
 }
 
 // What stands behind a point.
-pub fn next_point(text: &[u8], place: usize, p: Point) -> Read
-    requires { place ≤ length text.now }
+#[tactic(auto, unfolding(crate::specs::Form::behind))]
+pub fn next_point(text: &[u8], place: usize, p: Point) -> Result<Read, Wrong>
     ensures { result ≡ behind text.now place p }
 {
-    let first = p.first;
-    let path_layer = p.layer;
-    let x = p.x;
-    let y = p.y;
-    if first {
-        return point_from(text, place, path_layer, false, x, y);
+    if !p.first {
+        let word = word_from(text, place);
+        if word.spells(b";") {
+            return Ok(Read::End(word.next));
+        }
+        if word.spells(b"NEW") {
+            return path_from(text, word.next);
+        }
     }
-    let word = word_from(text, place);
-    let new = [78, 69, 87];
-    if is_byte(text, word, SEMICOLON) {
-        return Read::End(word.next);
-    }
-    if is_word(text, word, &new) {
-        return path_from(text, word.next);
-    }
-    point_from(text, place, path_layer, false, x, y)
+    point_from(text, place, p.layer, Some(p))
 }
 
 // A path's layer and its first point.
-fn path_from(text: &[u8], place: usize) -> Read
-    requires { place ≤ length text.now }
+#[tactic(auto, unfolding(crate::specs::Form::path_from))]
+fn path_from(text: &[u8], place: usize) -> Result<Read, Wrong>
     ensures { result ≡ path_from text.now place }
 {
     let word = word_from(text, place);
-    let path_layer = layer(text, word);
-    if path_layer == 0 {
-        return Read::Wrong(word.at);
-    }
-    point_from(text, word.next, path_layer, true, 0, 0)
+    let layer = word.layer().ok_or(Wrong(word.at))?;
+    point_from(text, word.next, layer, None)
 }
 
-// A point `( x y )`: the path's first, or behind a point at before_x, before_y.
-fn point_from(
-    text: &[u8],
-    place: usize,
-    path_layer: u8,
-    first: bool,
-    before_x: u16,
-    before_y: u16,
-) -> Read
-    requires { place ≤ length text.now }
-    ensures { result ≡ point_from text.now place path_layer first before_x before_y }
+// A point `( x y )`: the path's first, or behind another.
+#[tactic(auto, unfolding(crate::specs::Form::point_from))]
+fn point_from(text: &[u8], place: usize, layer: u8, before: Option<Point>) -> Result<Read, Wrong>
+    ensures { result ≡ point_from text.now place layer before }
 {
-    let open = word_from(text, place);
-    if !is_byte(text, open, OPEN) {
-        return Read::Wrong(open.at);
-    }
+    let open = word_spelled(text, place, b"(")?;
     let x_word = word_from(text, open.next);
-    let x = coordinate_of(text, x_word, first, before_x);
-    if NO_NUMBER <= x {
-        return Read::Wrong(x_word.at);
-    }
+    let x = coordinate_of(x_word, before.map(|p| p.x)).ok_or(Wrong(x_word.at))?;
     let y_word = word_from(text, x_word.next);
-    let y = coordinate_of(text, y_word, first, before_y);
-    if NO_NUMBER <= y {
-        return Read::Wrong(y_word.at);
-    }
-    let close = word_from(text, y_word.next);
-    if !is_byte(text, close, CLOSE) {
-        return Read::Wrong(close.at);
-    }
+    let y = coordinate_of(y_word, before.map(|p| p.y)).ok_or(Wrong(y_word.at))?;
+    let close = word_spelled(text, y_word.next, b")")?;
     let point = Point {
         at: open.at,
-        layer: path_layer,
-        first,
-        x: x as u16,
-        y: y as u16,
+        layer,
+        first: before.is_none(),
+        x,
+        y,
     };
-    Read::Whole(point, close.next)
+    Ok(Read::Whole(point, close.next))
 }
 
-// A coordinate, or NO_NUMBER.
-fn coordinate_of(text: &[u8], w: Word, first: bool, before: u16) -> u32
-    requires { (w.at ≤ w.next) × (w.next ≤ length text.now) }
-    ensures { result ≡ cond (is_coordinate first (spelling text.now w)) (coordinate before (spelling text.now w)) 65536 }
+// A coordinate: a number, or `*` for that of the point before.
+#[tactic(auto, unfolding(crate::specs::Form::coordinate))]
+fn coordinate_of(word: Word, before: Option<u16>) -> Option<u16>
+    ensures { result ≡ coordinate before word.entry.bytes.now }
 {
-    if is_byte(text, w, STAR) {
-        if first {
-            return NO_NUMBER;
-        }
-        return before as u32;
+    if word.spells(b"*") {
+        return before;
     }
-    number(text, w)
+    word.number()
 }
 
-// Reads the text again: the first of its first `points` points that stands at x, y in a path of a layer from low to high, or `points` where none does.
+// The first word from a place on, which has to have these bytes.
+fn word_spelled<'a>(text: &'a [u8], place: usize, bytes: &[u8]) -> Result<Word<'a>, Wrong>
+    ensures { MatchResult result (λ w. (same (word_at text.now place) bytes.now ≡ true) × (w.at ≡ (word_from text.now place).at) × (w.next ≡ after text.now place)) (λ e. (same (word_at text.now place) bytes.now ≡ false) × (e.0 ≡ (word_from text.now place).at)) }
+{
+    let word = word_from(text, place);
+    if !word.spells(bytes) {
+        return Err(Wrong(word.at));
+    }
+    Ok(word)
+}
+
+// Reads the text again: which of its first `points` points is the first that stands at x, y in a path of a layer from low to high.
 pub fn first_read(
     text: &[u8],
     place: usize,
@@ -155,43 +126,26 @@ pub fn first_read(
     y: u16,
     low: u8,
     high: u8,
-) -> usize
+) -> Option<usize>
     ensures { result ≡ first_read text.now place points x y low high }
 {
-    let mut read = begin(text, start_of(text, place));
-    let mut k = 0;
-    while k < points {
-        match read {
-            Read::Whole(p, next) => {
-                if stands(p, x, y, low, high) {
-                    return k;
-                }
-                read = next_point(text, next, p);
-                k += 1;
-            }
-            Read::End(_) => return points,
-            Read::Wrong(_) => return points,
+    let mut read = begin(text, start_of(text, place)).ok()?;
+    for k in 0..points {
+        let Read::Whole(p, next) = read else {
+            return None;
+        };
+        if stands(p, x, y, low, high) {
+            return Some(k);
         }
+        read = next_point(text, next, p).ok()?;
     }
-    points
+    None
 }
 
 // The point stands at x, y in a path of a layer from low to high.
+#[tactic(auto, unfolding(crate::specs::Again::stands_within))]
 fn stands(p: Point, x: u16, y: u16, low: u8, high: u8) -> bool
     ensures { result ≡ stands_within x y low high p }
 {
-    let layer = p.layer;
-    if p.x != x {
-        return false;
-    }
-    if p.y != y {
-        return false;
-    }
-    if layer < low {
-        return false;
-    }
-    if high < layer {
-        return false;
-    }
-    true
+    p.x == x && p.y == y && low <= p.layer && p.layer <= high
 }

@@ -1,5 +1,4 @@
 pub mod Cuttable
 pub mod Geometry
 pub mod Lines
-pub mod Signed
 pub mod Excluded

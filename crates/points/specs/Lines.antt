@@ -17,21 +17,21 @@ abbrev pub line_of : List ℕ → List ℕ → ℕ → Line
 line_of nodes wires i =
     record {
       layer = wire_layer wires i;
-      x = record { from = node_x nodes i; heading = heading (node_x nodes i) (node_x nodes (wire_parent wires i)) };
-      y = record { from = node_y nodes i; heading = heading (node_y nodes i) (node_y nodes (wire_parent wires i)) };
+      x = record { from = node_x nodes i; step = heading (node_x nodes i) (node_x nodes (wire_parent wires i)) };
+      y = record { from = node_y nodes i; step = heading (node_y nodes i) (node_y nodes (wire_parent wires i)) };
     }
 
 -- every coordinate of a line up to t steps is a number of 16 bits
 pub record Reaches (line : Line) (t : ℕ) : Type 0 where
-  pub x : Reach line.x.from line.x.heading t
-  pub y : Reach line.y.from line.y.heading t
+  pub x : Reach line.x.from line.x.step t
+  pub y : Reach line.y.from line.y.step t
 
 pub reaches_less : {line : Line} {t s : ℕ} → Reaches line t → s ≤ t → Reaches line s
-reaches_less {line} r l = record { x = reach_less line.x.from line.x.heading r.x l; y = reach_less line.y.from line.y.heading r.y l }
+reaches_less {line} r l = record { x = reach_less r.x l; y = reach_less r.y l }
 
 -- the point t steps on
 abbrev pub point_on : Line → ℕ → Point
-point_on line t = record { x = stepped line.x.from line.x.heading t; y = stepped line.y.from line.y.heading t }
+point_on line t = record { x = stepped line.x.from line.x.step t; y = stepped line.y.from line.y.step t }
 
 -- the line of an accepted wire, as far as its length
 pub reaches_of : (nodes wires : List ℕ) (i t : ℕ) → ((k : ℕ) → get_or nodes k 0 < 256) → Checked nodes wires i → t ≤ wire_length nodes wires i → Reaches (line_of nodes wires i) t
@@ -43,23 +43,23 @@ covers o p = between o.x1 o.x2 p.x && between o.y1 o.y2 p.y
 
 -- an obstacle's stretch of a line, on both axes
 pub obstacle-below : (o : Obstacle) (line : Line) {a b r : ℕ} →
-    a ≡ last_below line.x.from line.x.heading o.x1 o.x2 → b ≡ last_below line.y.from line.y.heading o.y1 o.y2 →
+    a ≡ last_below line.x.from line.x.step o.x1 o.x2 → b ≡ last_below line.y.from line.y.step o.y1 o.y2 →
     a ≤ r → b ≤ r → (r ≡ a) ⊎ (r ≡ b) → LastBelow (λ t. covers o (point_on line t)) r
 obstacle-below o line ea eb l m c =
     both_below
-    (rw (← ea) at (axis_below line.x.from line.x.heading o.x1 o.x2))
-    (rw (← eb) at (axis_below line.y.from line.y.heading o.y1 o.y2))
+    (rw (← ea) at (axis_below line.x.from line.x.step o.x1 o.x2))
+    (rw (← eb) at (axis_below line.y.from line.y.step o.y1 o.y2))
     l
     m
     c
 
 pub obstacle-above : (o : Obstacle) (line : Line) (end : ℕ) {a b r : ℕ} → Reaches line end →
-    a ≡ first_above line.x.from line.x.heading o.x1 o.x2 end → b ≡ first_above line.y.from line.y.heading o.y1 o.y2 end →
+    a ≡ first_above line.x.from line.x.step o.x1 o.x2 end → b ≡ first_above line.y.from line.y.step o.y1 o.y2 end →
     r ≤ a → r ≤ b → (r ≡ a) ⊎ (r ≡ b) → FirstAbove (λ t. covers o (point_on line t)) end r
 obstacle-above o line end reach ea eb l m c =
     both-above
-    (rw (← ea) at (axis_above line.x.from line.x.heading o.x1 o.x2 reach.x))
-    (rw (← eb) at (axis_above line.y.from line.y.heading o.y1 o.y2 reach.y))
+    (rw (← ea) at (axis_above o.x1 o.x2 reach.x))
+    (rw (← eb) at (axis_above o.y1 o.y2 reach.y))
     l
     m
     c

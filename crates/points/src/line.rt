@@ -15,11 +15,11 @@ pub struct Point {
     pub y: u16,
 }
 
-// A line on one axis: the coordinate where it begins, and how that compares with the one where it ends.
+// A line on one axis: the coordinate where it begins, and its direction, a step of −1, 0 or 1, the form that document 01 names.
 #[derive(Clone, Copy, Debug, PartialEq, Eq)]
 pub(crate) struct Axis {
     pub(crate) from: u16,
-    pub(crate) heading: Ordering,
+    pub(crate) step: i32,
 }
 
 // The line of a wire in its layer.
@@ -32,46 +32,43 @@ pub(crate) struct Line {
 
 impl Axis {
     pub(crate) fn toward(from: u16, to: u16) -> Axis
-        ensures { result ≡ record { from = from; heading = heading from to } }
+        ensures { result ≡ record { from = from; step = heading from to } }
     {
+        let difference = i32::from(to) - i32::from(from);
         Axis {
             from,
-            heading: from.cmp(&to),
+            step: difference.signum(),
         }
     }
 
     // The coordinate t steps on.
     pub(crate) fn at(self, t: u32) -> u16
-        requires { Reach self.from self.heading t }
-        ensures { result ≡ stepped self.from self.heading t }
+        requires { Reach self.from self.step t }
+        ensures { result ≡ stepped self.from self.step t }
     {
-        match self.heading {
-            Ordering::Less => self.from + t as u16,
-            Ordering::Equal => self.from,
-            Ordering::Greater => self.from - t as u16,
-        }
+        (i32::from(self.from) + self.step * t as i32) as u16
     }
 
     // The last position below those whose coordinate is one of low to high.
     pub(crate) fn last_below(self, low: u16, high: u16) -> u32
-        ensures { result ≡ last_below self.from self.heading low high }
+        ensures { result ≡ last_below self.from self.step low high }
     {
-        let past = match self.heading {
-            Ordering::Less => low.saturating_sub(self.from),
+        let past = match self.step.cmp(&0) {
+            Ordering::Greater => low.saturating_sub(self.from),
             Ordering::Equal => 0,
-            Ordering::Greater => self.from.saturating_sub(high),
+            Ordering::Less => self.from.saturating_sub(high),
         };
         u32::from(past.saturating_sub(1))
     }
 
     // The first position above them, `end` where every coordinate is one of them.
     pub(crate) fn first_above(self, low: u16, high: u16, end: u32) -> u32
-        ensures { result ≡ first_above self.from self.heading low high end }
+        ensures { result ≡ first_above self.from self.step low high end }
     {
-        let last = match self.heading {
-            Ordering::Less => high.saturating_sub(self.from),
+        let last = match self.step.cmp(&0) {
+            Ordering::Greater => high.saturating_sub(self.from),
             Ordering::Equal => return end,
-            Ordering::Greater => self.from.saturating_sub(low),
+            Ordering::Less => self.from.saturating_sub(low),
         };
         u32::from(last) + 1
     }

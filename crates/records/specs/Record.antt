@@ -14,7 +14,10 @@ use Rattle.pieces.specs.Legal.{entry_position}
 abbrev pub lowest_of : ℕ → ℕ
 lowest_of layers = cond (eqb layers 0) 0 (suc (count_trailing_zeros most_layers layers))
 
--- weight and flags; layers, how many they are, and the lowest
+-- number and position; weight and flags; layers, how many they are, and the lowest
+abbrev pub name_part : ℕ → ℕ → List ℕ
+name_part number position = number ∷ bytes16 position
+
 abbrev pub weight_part : ℕ → ℕ → List ℕ
 weight_part weight flags = bytes32 weight ++ flags ∷ []
 

@@ -2,5 +2,5 @@
 #![tactic(auto)]
 
 pub mod pass;
-mod record;
-mod wire;
+pub mod record;
+pub mod wire;

@@ -27,17 +27,23 @@ fn take_wires(
     ensures { AtAccepted nodes.now wires.now stage jumpers.now
         (λ s. out.new ≡ over (report_of s limit (set_of jumpers.now)) out.old) }
 {
-    let count = node_count(nodes);
     let mut at = 0;
     let mut e = 0;
-    let mut i = 0;
-    while i < count {
+    for i in 0..node_count(nodes) {
         let end = entries_end(jumpers, i, e);
         at = take_wire(
-            stage, limit, nodes, wires, jumpers, i, e, end, places, out, at,
+            stage,
+            limit,
+            nodes,
+            wires,
+            jumpers,
+            i,
+            e..end,
+            places,
+            out,
+            at,
         );
         e = end;
-        i += 1;
     }
 }
 

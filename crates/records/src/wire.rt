@@ -1,5 +1,6 @@
 // One node with its wire: what it adds to the records of the nodes and wires below it.
-ghost use Rattle.std.specs.Prelude.{◌≡◌, ℕ, ◌+◌, ◌-◌, ◌*◌, ◌^◌, ◌<◌, ◌≤◌, length, get_or, set, drop};
+ghost use Rattle.std.specs.Prelude.{◌≡◌, ℕ, ◌+◌, ◌-◌, ◌*◌, ◌^◌, ◌<◌, ◌≤◌, length, get_or, set, drop, ltb};
+ghost use Rattle.laws.specs.Sum.{χ};
 ghost use Rattle.laws.specs.Place.{place};
 ghost use Rattle.net.specs.Layout.{record_bytes, wire_bytes, most_nodes, most_layers};
 ghost use Rattle.net.specs.Limits.{length_bound, wire_weight_bound};
@@ -12,26 +13,37 @@ ghost use Rattle.records.specs.ListRight.{ListAccepted};
 ghost use Rattle.records.specs.Held.{HeldBelow, RecordsFit};
 ghost use Rattle.records.specs.Wire.{WireReady, EntriesReady, joined_wire, parted_wire};
 
-use crate::record::{join_record, with_harm, write_record};
+use crate::record::{Record, join_record};
 use lists::entries::entry_position;
-use net::fields::{is_present, node_flags, wire_factor, wire_layer, wire_parent};
+use net::fields::{Wire, is_present, node_at, wire_at};
 use net::layout::RECORD_BYTES;
 use points::length_of;
+use std::ops::Range;
 
-// The weight of so many steps of wire i.
-fn weight_of(wires: &[u8], i: usize, steps: u32) -> u64
-    requires { (0 < i) × (wire_bytes * i ≤ length wires.now) × (steps < length_bound) }
-    ensures { (result ≡ steps * wire_factor wires.now i) × (result < wire_weight_bound) }
+// The weight of so many steps of a wire.
+pub fn weight_of(steps: u32, factor: u8) -> u64
+    ensures { (result ≡ steps * factor) × (steps < length_bound → result < wire_weight_bound) }
 {
-    (steps as u64) * (wire_factor(wires, i) as u64)
+    u64::from(steps) * u64::from(factor)
 }
 
-// The mask of wire i's layer.
-fn layer_mask(wires: &[u8], i: usize) -> u16
-    requires { (0 < i) × (wire_bytes * i ≤ length wires.now) × (1 ≤ wire_layer wires.now i) × (wire_layer wires.now i ≤ most_layers) }
-    ensures { result ≡ 2 ^ (wire_layer wires.now i - 1) }
+// The mask of a layer.
+pub fn mask_of(layer: u8) -> u16
+    requires { (1 ≤ layer) × (layer ≤ most_layers) }
+    ensures { result ≡ 2 ^ (layer - 1) }
 {
-    1u16 << (wire_layer(wires, i) - 1)
+    1u16 << (layer - 1)
+}
+
+// The layers of so many steps of a layer.
+pub fn layers_of(steps: u32, layer: u8) -> u16
+    requires { (1 ≤ layer) × (layer ≤ most_layers) }
+    ensures { result ≡ χ (ltb 0 steps) (2 ^ (layer - 1)) }
+{
+    if steps == 0 {
+        return 0;
+    }
+    mask_of(layer)
 }
 
 // Node i begins a piece, whose record comes behind the others.
@@ -50,50 +62,37 @@ fn start_piece(
         × (out.new ≡ place at (node_fields limit i weight flags layers) out.old) }
 {
     places[i] = at;
-    write_record(
-        &mut out[at..],
-        i as u8,
-        0,
-        weight,
-        with_harm(limit, weight, flags),
-        layers,
-    );
+    Record::of_piece(limit, i, weight, flags, layers).write(&mut out[at..]);
     at + RECORD_BYTES
 }
 
-// The records of the stretches between the entries e to end - 1 of wire i.
-fn write_stretches(
+// The records of the stretches between some entries of wire i.
+pub fn write_stretches(
     jumpers: &[u8],
     i: usize,
-    e: usize,
-    end: usize,
-    factor: u8,
-    layer: u8,
+    entries: Range<usize>,
+    wire: Wire,
     out: &mut [u8],
     at: usize,
 ) -> usize
-    requires i_lt_most_nodes { (i < most_nodes) × (e ≤ end) × (end ≤ entry_count jumpers.now) × (1 ≤ layer) × (layer ≤ most_layers) }
-    requires by_index { (d : ℕ) → e ≤ d → d + 1 < end → entry_position jumpers.now d ≤ entry_position jumpers.now (d + 1) }
-    requires e_in_bounds { at + record_bytes * (end - e - 1) ≤ length out.old }
-    ensures { (result ≡ at + record_bytes * (end - e - 1))
-        × (out.new ≡ place at (stretches_fields jumpers.now i factor layer e (end - e - 1)) out.old) }
+    requires i_lt_most_nodes { (i < most_nodes) × (entries.start ≤ entries.end) × (entries.end ≤ entry_count jumpers.now) × (1 ≤ wire.layer) × (wire.layer ≤ most_layers) }
+    requires by_index { (d : ℕ) → entries.start ≤ d → d + 1 < entries.end → entry_position jumpers.now d ≤ entry_position jumpers.now (d + 1) }
+    requires room { at + record_bytes * (entries.end - entries.start - 1) ≤ length out.old }
+    ensures { (result ≡ at + record_bytes * (entries.end - entries.start - 1))
+        × (out.new ≡ place at (stretches_fields jumpers.now i wire.factor wire.layer entries.start (entries.end - entries.start - 1)) out.old) }
 {
     let mut next = at;
-    let mut d = e;
-    while d + 1 < end {
-        let from = entry_position(jumpers, d);
-        let steps = entry_position(jumpers, d + 1) - from;
-        let weight = (steps as u64) * (factor as u64);
-        write_record(
-            &mut out[next..],
-            i as u8,
-            from,
-            weight,
-            0,
-            1u16 << (layer - 1),
-        );
+    for d in entries.start + 1..entries.end {
+        let from = entry_position(jumpers, d - 1);
+        let stretch = Record {
+            number: i as u8,
+            position: from,
+            weight: weight_of(entry_position(jumpers, d) - from, wire.factor),
+            flags: 0,
+            layers: mask_of(wire.layer),
+        };
+        stretch.write(&mut out[next..]);
         next += RECORD_BYTES;
-        d += 1;
     }
     next
 }
@@ -104,72 +103,58 @@ fn join_wire(limit: u32, nodes: &[u8], wires: &[u8], i: usize, places: &mut [usi
     ensures { (places.new ≡ set places.old i (get_or places.old (wire_parent wires.now i) 0))
         × (out.new ≡ joined_wire limit nodes.now wires.now i places.old out.old) }
 {
-    let above = places[wire_parent(wires, i)];
+    let wire = wire_at(wires, i);
+    let above = places[wire.parent];
     let len = length_of(nodes, wires, i);
-    let weight = weight_of(wires, i, len);
-    let flags = node_flags(nodes, i);
     places[i] = above;
-    if len == 0 {
-        join_record(&mut out[above..], limit, weight, flags, 0);
-        return;
-    }
     join_record(
         &mut out[above..],
         limit,
-        weight,
-        flags,
-        layer_mask(wires, i),
+        weight_of(len, wire.factor),
+        node_at(nodes, i).flags,
+        layers_of(len, wire.layer),
     );
 }
 
-// A wire with jumpers, the entries e to end - 1: the steps above the last are in its parent's piece, those below the first in node i's; the stretches lie between.
+// A wire with jumpers, which are those entries: the steps above the last are in its parent's piece, those below the first in node i's; the stretches lie between.
 fn part_wire(
     limit: u32,
     nodes: &[u8],
     wires: &[u8],
     jumpers: &[u8],
     i: usize,
-    e: usize,
-    end: usize,
+    entries: Range<usize>,
     places: &mut [usize],
     out: &mut [u8],
     at: usize,
 ) -> usize
     requires wire_ready { WireReady nodes.now wires.now i places.old out.old }
-    requires entries_ready { EntriesReady nodes.now wires.now jumpers.now i e end }
-    requires e_in_bounds { at + record_bytes * (end - e) ≤ length out.old }
-    ensures { (result ≡ at + record_bytes * (end - e)) × (places.new ≡ set places.old i at)
-        × (out.new ≡ parted_wire limit nodes.now wires.now jumpers.now i e end places.old at out.old) }
+    requires entries_ready { EntriesReady nodes.now wires.now jumpers.now i entries.start entries.end }
+    requires room { at + record_bytes * (entries.end - entries.start) ≤ length out.old }
+    ensures { (result ≡ at + record_bytes * (entries.end - entries.start)) × (places.new ≡ set places.old i at)
+        × (out.new ≡ parted_wire limit nodes.now wires.now jumpers.now i entries.start entries.end places.old at out.old) }
 {
-    let above = places[wire_parent(wires, i)];
-    let first = entry_position(jumpers, e);
-    let last = entry_position(jumpers, end - 1);
-    let mask = layer_mask(wires, i);
-    let end_weight = weight_of(wires, i, length_of(nodes, wires, i) - last);
+    let wire = wire_at(wires, i);
+    let above = places[wire.parent];
+    let mask = mask_of(wire.layer);
+    let first = entry_position(jumpers, entries.start);
+    let last = entry_position(jumpers, entries.end - 1);
+    let end_weight = weight_of(length_of(nodes, wires, i) - last, wire.factor);
     join_record(&mut out[above..], limit, end_weight, 0, mask);
     let behind = start_piece(
         limit,
         i,
-        weight_of(wires, i, first),
-        node_flags(nodes, i),
+        weight_of(first, wire.factor),
+        node_at(nodes, i).flags,
         mask,
         places,
         out,
         at,
     );
-    write_stretches(
-        jumpers,
-        i,
-        e,
-        end,
-        wire_factor(wires, i),
-        wire_layer(wires, i),
-        out,
-        behind,
-    )
+    write_stretches(jumpers, i, entries, wire, out, behind)
 }
 
-// Node i with its wire, whose entries in the list are those from e to end - 1: the buffer, which begins with the records of the nodes below i, then begins with those of the
+// Node i with its wire, whose entries in the list are those: the buffer, which begins with the records of the nodes below i, then begins with those of the
 // nodes up to i; where they end.
 pub fn take_wire(
     stage: u8,
@@ -178,25 +163,24 @@ pub fn take_wire(
     wires: &[u8],
     jumpers: &[u8],
     i: usize,
-    e: usize,
-    end: usize,
+    entries: Range<usize>,
     places: &mut [usize],
     out: &mut [u8],
     at: usize,
 ) -> usize
     requires list_accepted { ListAccepted nodes.now wires.now stage jumpers.now }
-    requires i_bound { (i < node_count nodes.now) × OfWire jumpers.now (entry_count jumpers.now) i e end }
+    requires i_bound { (i < node_count nodes.now) × OfWire jumpers.now (entry_count jumpers.now) i entries.start entries.end }
     requires nodes_in_bounds { (node_count nodes.now ≤ length places.old) × RecordsFit nodes.now wires.now stage jumpers.now limit out.old }
     requires held_below { HeldBelow nodes.now wires.now stage jumpers.now limit i places.old at out.old }
     ensures { HeldBelow nodes.now wires.now stage jumpers.now limit (i + 1) places.new result out.new
         × (drop result out.new ≡ drop result out.old) }
 {
     if !is_present(stage, wires, i) {
-        return start_piece(limit, i, 0, node_flags(nodes, i), 0, places, out, at);
+        return start_piece(limit, i, 0, node_at(nodes, i).flags, 0, places, out, at);
     }
-    if e == end {
+    if entries.is_empty() {
         join_wire(limit, nodes, wires, i, places, out);
         return at;
     }
-    part_wire(limit, nodes, wires, jumpers, i, e, end, places, out, at)
+    part_wire(limit, nodes, wires, jumpers, i, entries, places, out, at)
 }

@@ -1,29 +1,17 @@
 -- What the passes over a net and a jumper list that are accepted may rely on. The passes read no obstacle: what they promise holds for whatever
 -- obstacles, of whatever version, the net and the list are accepted with.
 -- Assumes nothing.
-use Rattle.std.specs.Prelude.{ℕ, ◌*◌, ◌≤◌, List, length, get_or}
-use Rattle.net.specs.Layout.{record_bytes}
+use Rattle.std.specs.Prelude.{ℕ, ◌≤◌, List, get_or}
 use Rattle.net.specs.Stage.{stage_of}
 use Rattle.pieces.specs.JumperList.{set_of}
 use Rattle.records.specs.ListRight.{ListRight}
-use Rattle.reports.specs.Promise.{piece_count}
+use Rattle.reports.specs.declared.gather.Piece.{Piece}
 use Rattle.reports.specs.Gathered.{Gathered}
 
--- the arrays hold what the wires below i give
-abbrev pub GatheredBelow : List ℕ → List ℕ → ℕ → List ℕ → ℕ → List ℕ → List ℕ → List ℕ → List ℕ → Type 0
-GatheredBelow ns ws k list i lowest weight flags layers =
-    (v : ℕ) (os : List ℕ) → ListRight v ns ws k list os → Gathered (stage_of v ns ws os k) (set_of list) i lowest weight flags layers
-
--- the work arrays have n entries or more
-pub record Roomy (n : ℕ) (lowest weight flags layers : List ℕ) : Type 0 where
-  pub lowests : n ≤ length lowest
-  pub weights : n ≤ length weight
-  pub flagged : n ≤ length flags
-  pub layered : n ≤ length layers
-
--- the buffer has room for the records of all pieces
-abbrev pub RecordsFit : List ℕ → List ℕ → ℕ → List ℕ → List ℕ → Type 0
-RecordsFit ns ws k list out = (v : ℕ) (os : List ℕ) → ListRight v ns ws k list os → record_bytes * piece_count (stage_of v ns ws os k) list ≤ length out
+-- the work array holds what the wires below i give
+abbrev pub GatheredBelow : List ℕ → List ℕ → ℕ → List ℕ → ℕ → List Piece → Type 0
+GatheredBelow ns ws k list i pieces =
+    (v : ℕ) (os : List ℕ) → ListRight v ns ws k list os → Gathered (stage_of v ns ws os k) (set_of list) i pieces
 
 -- each weight is at most x
 abbrev pub AtMost : ℕ → List ℕ → Type 0

@@ -18,33 +18,34 @@ use Rattle.pieces.specs.Lowest.{joins-yes, cut_apart, absent-apart, lowest_node-
 use Rattle.pieces.specs.Legal.{entry_position}
 use Rattle.pieces.specs.JumperList.{entry_count, set_of}
 use Rattle.lists.specs.EntriesOfWire.{OfWire, positions-rise, of_wire_first, of_wire_last}
-use Rattle.reports.specs.Gathered.{Gathered}
+use Rattle.reports.specs.declared.gather.Piece.{Piece}
+use Rattle.reports.specs.Gathered.{lowest, weight, flags, layers, Gathered}
 use Rattle.reports.specs.Gathering.{Named, Added, Joined, Parted, gathered-absent, gathered-joined, gathered-cut}
 use Rattle.records.specs.ListRight.{ListRight, ListAccepted}
 use Rattle.records.specs.ListRights.{formed_of, inside_of, free_of, rising_of, range_of, present_is, flags_of, entries-cut, entries-present, stored_of, node-small, product_small}
-use Rattle.reports.specs.ListRight.{GatheredBelow, Roomy, AtMost}
+use Rattle.reports.specs.ListRight.{GatheredBelow, AtMost}
 
 module _ (v : ℕ) (ns ws list os : List ℕ) (k : ℕ) (j : ListRight v ns ws k list os) where
   -- ---- steps
-  module _ (i : ℕ) (inside : i < node_count ns) {lo w f l : List ℕ} (g : Gathered (stage_of v ns ws os k) (set_of list) i lo w f l) where
-    pub step-absent : {lo' f' : List ℕ} (flags : ℕ) → flags ≡ node_flags ns i → (ltb 0 i && leb (wire_layer ws i) k) ≡ false →
-        Named lo f lo' f' i i flags → Gathered (stage_of v ns ws os k) (set_of list) (i + 1) lo' w f' l
+  module _ (i : ℕ) (inside : i < node_count ns) {p : List Piece} (g : Gathered (stage_of v ns ws os k) (set_of list) i p) where
+    pub step-absent : {q : List Piece} (of_node : ℕ) → of_node ≡ node_flags ns i → (ltb 0 i && leb (wire_layer ws i) k) ≡ false →
+        Named (lowest p) (flags p) (lowest q) (flags q) i i of_node → weight q ≡ weight p → layers q ≡ layers p → Gathered (stage_of v ns ws os k) (set_of list) (i + 1) q
     unfolding stage_of
-    step-absent flags e z n =
+    step-absent of_node e z n we le =
         let s = stage_of v ns ws os k in
         let absent = present_is v ns ws list os k j i inside ∙ z in
-        gathered-absent s (set_of list) (formed_of v ns ws list os k j) (inside_of v ns ws list os k j) i (range_of v ns ws list os k j i) g flags (e ∙ flags_of v ns ws list os k j i inside) absent
-        (sym (lowest_node-stop s (set_of list) (formed_of v ns ws list os k j) i (absent-apart s (set_of list) i absent))) n
+        gathered-absent s (set_of list) (formed_of v ns ws list os k j) (inside_of v ns ws list os k j) i (range_of v ns ws list os k j i) g of_node (e ∙ flags_of v ns ws list os k j i inside) absent
+        (sym (lowest_node-stop s (set_of list) (formed_of v ns ws list os k j) i (absent-apart s (set_of list) i absent))) n we le
 
     module _ (y : (ltb 0 i && leb (wire_layer ws i) k) ≡ true) where
       present : (stage_of v ns ws os k).present i ≡ true
       present = present_is v ns ws list os k j i inside ∙ y
 
-      above_is : get_or lo (wire_parent ws i) 0 ≡ lowest_node (stage_of v ns ws os k) (set_of list) (wire_parent ws i)
+      above_is : get_or (lowest p) (wire_parent ws i) 0 ≡ lowest_node (stage_of v ns ws os k) (set_of list) (wire_parent ws i)
       unfolding stage_of
       above_is = g.lowests (wire_parent ws i) ((formed_of v ns ws list os k j).below i present)
 
-      pub above-inside : get_or lo (wire_parent ws i) 0 < i
+      pub above-inside : get_or (lowest p) (wire_parent ws i) 0 < i
       unfolding stage_of
       above-inside =
           let p = (formed_of v ns ws list os k j).below i present in
@@ -52,24 +53,24 @@ module _ (v : ℕ) (ns ws list os : List ℕ) (k : ℕ) (j : ListRight v ns ws k
           let r = above_is in
           omega arith
 
-      module _ (a b : ℕ) (entries : OfWire list (entry_count list) i a b) {lo' w' f' l' : List ℕ} where
-        pub step-joined : a ≡ b → Joined ns ws i lo w f l lo' w' f' l' → Gathered (stage_of v ns ws os k) (set_of list) (i + 1) lo' w' f' l'
+      module _ (a b : ℕ) (entries : OfWire list (entry_count list) i a b) {q : List Piece} where
+        pub step-joined : a ≡ b → Joined ns ws i p q → Gathered (stage_of v ns ws os k) (set_of list) (i + 1) q
         unfolding stage_of
         step-joined e d =
             let s = stage_of v ns ws os k in
             let uncut : cut_at s (set_of list) i ≡ false = entries-cut v ns ws list os k j i a b entries ∙ le-ltb a b (omega arith) in
-            gathered-joined s (set_of list) (formed_of v ns ws list os k j) (inside_of v ns ws list os k j) i (range_of v ns ws list os k j i) g (get_or lo (wire_parent ws i) 0)
+            gathered-joined s (set_of list) (formed_of v ns ws list os k j) (inside_of v ns ws list os k j) i (range_of v ns ws list os k j i) g (get_or (lowest p) (wire_parent ws i) 0)
             (above_is ∙ sym (lowest_node-up s (set_of list) (formed_of v ns ws list os k j) i (joins-yes s (set_of list) i present uncut)))
             (node_flags ns i) (flags_of v ns ws list os k j i inside) present uncut d.named d.added
 
-        pub step_cut : a < b → Parted ns ws i (entry_position list a) (entry_position list (b - 1)) lo w f l lo' w' f' l' →
-            Gathered (stage_of v ns ws os k) (set_of list) (i + 1) lo' w' f' l'
+        pub step_cut : a < b → Parted ns ws i (entry_position list a) (entry_position list (b - 1)) p q →
+            Gathered (stage_of v ns ws os k) (set_of list) (i + 1) q
         unfolding stage_of
         step_cut e d =
             let s = stage_of v ns ws os k in
             let cut : cut_at s (set_of list) i ≡ true = entries-cut v ns ws list os k j i a b entries ∙ lt-ltb a b e in
             gathered-cut s (set_of list) (formed_of v ns ws list os k j) (inside_of v ns ws list os k j) i (range_of v ns ws list os k j i) g {w₁ = d.w₁} {l₁ = d.l₁} (entry_position list a) (entry_position list (b - 1))
-            (get_or lo (wire_parent ws i) 0) (node_flags ns i)
+            (get_or (lowest p) (wire_parent ws i) 0) (node_flags ns i)
             (sym (lowest_node-stop s (set_of list) (formed_of v ns ws list os k j) i (cut_apart s (set_of list) i cut)))
             above_is
             (sym (of_wire_first s list (entry_count list) (free_of v ns ws list os k j) (rising_of v ns ws list os k j) i a b entries e))
@@ -77,7 +78,7 @@ module _ (v : ℕ) (ns ws list os : List ℕ) (k : ℕ) (j : ListRight v ns ws k
             (flags_of v ns ws list os k j i inside) present cut d.named d.below d.above
 
 -- ---- what adding wire i, which the stage has, may rely on
-pub record WireReady (ns ws : List ℕ) (i : ℕ) (lo w f l : List ℕ) : Type 0 where
+pub record WireReady (ns ws : List ℕ) (i : ℕ) (p : List Piece) : Type 0 where
   pub numbered : 0 < i
   pub small : i < most_nodes
   pub stored : wire_bytes * i ≤ length ws
@@ -85,9 +86,9 @@ pub record WireReady (ns ws : List ℕ) (i : ℕ) (lo w f l : List ℕ) : Type 0
   pub below : wire_parent ws i < i
   pub low : 1 ≤ wire_layer ws i
   pub high : wire_layer ws i ≤ most_layers
-  pub above : get_or lo (wire_parent ws i) 0 < i
-  pub room : Roomy (i + 1) lo w f l
-  pub light : AtMost (i * (2 * wire_weight_bound)) w
+  pub above : get_or (lowest p) (wire_parent ws i) 0 < i
+  pub room : i < length p
+  pub light : AtMost (i * (2 * wire_weight_bound)) (weight p)
 
 module _ (ns ws list : List ℕ) (k : ℕ) (accepted : ListAccepted ns ws k list) (i : ℕ) (h : i < node_count ns) where
   module _ (a b : ℕ) (w : OfWire list (entry_count list) i a b) where
@@ -100,8 +101,8 @@ module _ (ns ws list : List ℕ) (k : ℕ) (accepted : ListAccepted ns ws k list
         (no_both (entries-present accepted.0 ns ws list accepted.1 k accepted.2 i a b w (ltb-true a b y)) (present_is accepted.0 ns ws list accepted.1 k accepted.2 i h ∙ z)))
         (λ n. ltb-false a b n)
 
-  pub wire_ready : {lo w f l : List ℕ} → Roomy (node_count ns) lo w f l → AtMost (i * (2 * wire_weight_bound)) w → GatheredBelow ns ws k list i lo w f l →
-      (ltb 0 i && leb (wire_layer ws i) k) ≡ true → WireReady ns ws i lo w f l
+  pub wire_ready : {p : List Piece} → node_count ns ≤ length p → AtMost (i * (2 * wire_weight_bound)) (weight p) → GatheredBelow ns ws k list i p →
+      (ltb 0 i && leb (wire_layer ws i) k) ≡ true → WireReady ns ws i p
   wire_ready room light g y =
       let v = accepted.0 in
       let os = accepted.1 in
@@ -117,7 +118,7 @@ module _ (ns ws list : List ℕ) (k : ℕ) (accepted : ListAccepted ns ws k list
         low = r.layer_low;
         high = r.layer_high;
         above = above-inside v ns ws list os k j i h (g v os j) y;
-        room = record { lowests = omega (arith, room.lowests); weights = omega (arith, room.weights); flagged = omega (arith, room.flagged); layered = omega (arith, room.layered) };
+        room = omega arith;
         light = light;
       }
 

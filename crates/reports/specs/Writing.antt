@@ -26,13 +26,18 @@ use Rattle.records.specs.ListRight.{ListRight}
 use Rattle.records.specs.ListRights.{inside_of}
 use Rattle.records.specs.FirstRecords.{stretch_bytes}
 use Rattle.records.specs.Stretches.{stretches-length, stretch-bytes}
-use Rattle.reports.specs.Gathered.{Gathered}
+use Rattle.reports.specs.declared.gather.Piece.{Piece}
+use Rattle.reports.specs.Gathering.{nothing, fields-at}
+use Rattle.reports.specs.Gathered.{lowest, weight, flags, layers, Gathered}
 use Rattle.reports.specs.NodeRecords.{node_record_lem}
 
--- the record of node i's piece where i is its lowest node, from the work arrays
-unfoldable pub node_fields : ℕ → List ℕ → List ℕ → List ℕ → List ℕ → ℕ → List ℕ
-node_fields limit lowest weight flags layers i =
-    cond (eqb (get_or lowest i 0) i) (fields i 0 (get_or weight i 0) (with_harm limit (get_or weight i 0) (get_or flags i 0)) (get_or layers i 0)) []
+-- the record of node i's piece where i is its lowest node, from the work array
+unfoldable pub node_fields : ℕ → List Piece → ℕ → List ℕ
+node_fields limit pieces i =
+    cond
+    (eqb (get_or (lowest pieces) i 0) i)
+    (fields i 0 (get_or (weight pieces) i 0) (with_harm limit (get_or (weight pieces) i 0) (get_or (flags pieces) i 0)) (get_or (layers pieces) i 0))
+    []
 
 -- the records that nodes and wires below i give
 unfoldable pub records_below : Stage → ℕ → Points → ℕ → List ℕ
@@ -71,8 +76,8 @@ module _ (s : Stage) (limit : ℕ) (J : Points) where
 
 -- ---- the bytes of a node and its wire
 module _ (v : ℕ) (ns ws list os : List ℕ) (k : ℕ) (j : ListRight v ns ws k list os) (limit : ℕ) where
-  node-bytes : {lo w f l : List ℕ} → Gathered (stage_of v ns ws os k) (set_of list) (node_count ns) lo w f l → (i : ℕ) → i < node_count ns →
-      node_fields limit lo w f l i ≡ flat_map (record_of (stage_of v ns ws os k) limit (set_of list)) (node_names (stage_of v ns ws os k) (set_of list) i)
+  node-bytes : {ps : List Piece} → Gathered (stage_of v ns ws os k) (set_of list) (node_count ns) ps → (i : ℕ) → i < node_count ns →
+      node_fields limit ps i ≡ flat_map (record_of (stage_of v ns ws os k) limit (set_of list)) (node_names (stage_of v ns ws os k) (set_of list) i)
   unfolding node_fields node_names flat_map stage_of
   node-bytes g i p =
       let s = stage_of v ns ws os k in
@@ -81,25 +86,26 @@ module _ (v : ℕ) (ns ws list os : List ℕ) (k : ℕ) (j : ListRight v ns ws k
       (λ y. rw y (sym (append-nil _ ∙ node_record_lem s (set_of list) (inside_of v ns ws list os k j) i limit)))
       (λ z. rw z))
 
-  pub wire-bytes : {lo w f l : List ℕ} → Gathered (stage_of v ns ws os k) (set_of list) (node_count ns) lo w f l → (i a b : ℕ) → i < node_count ns →
+  pub wire-bytes : {ps : List Piece} → Gathered (stage_of v ns ws os k) (set_of list) (node_count ns) ps → (i a b : ℕ) → i < node_count ns →
       OfWire list (entry_count list) i a b →
       records_below (stage_of v ns ws os k) limit (set_of list) (i + 1)
       ≡ records_below (stage_of v ns ws os k) limit (set_of list) i
-      ++ (node_fields limit lo w f l i ++ stretches_fields list i (wire_factor ws i) (wire_layer ws i) a (b - a - 1))
+      ++ (node_fields limit ps i ++ stretches_fields list i (wire_factor ws i) (wire_layer ws i) a (b - a - 1))
   unfolding stretch_bytes
   wire-bytes g i a b p e =
       rw (node-bytes g i p, stretch-bytes v ns ws list os k j limit i a b e) (records-more (stage_of v ns ws os k) limit (set_of list) i)
 
 -- ---- what the writers leave
-module _ (limit : ℕ) (lowest weight flags layers : List ℕ) (i : ℕ) where
-  pub node_fields_no : (get_or lowest i 0 ≡ i → ⊥) → node_fields limit lowest weight flags layers i ≡ []
+module _ (limit : ℕ) (pieces : List Piece) (i : ℕ) where
+  pub node_fields_no : ((get_or pieces i nothing).lowest ≡ i → ⊥) → node_fields limit pieces i ≡ []
   unfolding node_fields
-  node_fields_no n = rw (ne_eqb (get_or lowest i 0) i n)
+  node_fields_no n = let at = (fields-at pieces i).0 in rw (at, ne_eqb (get_or pieces i nothing).lowest i n)
 
-  pub node_fields_yes : get_or lowest i 0 ≡ i →
-      node_fields limit lowest weight flags layers i ≡ fields i 0 (get_or weight i 0) (with_harm limit (get_or weight i 0) (get_or flags i 0)) (get_or layers i 0)
+  pub node_fields_yes : (get_or pieces i nothing).lowest ≡ i →
+      let piece = get_or pieces i nothing in
+      node_fields limit pieces i ≡ fields i 0 piece.weight (with_harm limit piece.weight piece.flags) piece.layers
   unfolding node_fields
-  node_fields_yes e = rw (eq-eqb (get_or lowest i 0) i e)
+  node_fields_yes e = let at = fields-at pieces i in rw (at.0, at.1, at.2, at.3, eq-eqb (get_or pieces i nothing).lowest i e)
 
 -- two parts more
 pub placed_twice : (q n s out₀ out out₁ out₂ : List ℕ) (at behind : ℕ) → at ≡ length q → out ≡ place 0 q out₀ → out₁ ≡ place at n out →
@@ -114,18 +120,18 @@ placed_twice q n s out₀ out out₁ out₂ at behind ae oe e₁ be e₂ h =
     e₂ ∙ rw (one, here, ← append_assoc q n s) (place-more 0 (q ++ n) s out₀ (omega arith))
 
 -- a node and its wire more
-module _ (v : ℕ) (ns ws list os : List ℕ) (k : ℕ) (j : ListRight v ns ws k list os) (limit : ℕ) {lo w f l : List ℕ}
-    (g : Gathered (stage_of v ns ws os k) (set_of list) (node_count ns) lo w f l) (i a b : ℕ) (p : i < node_count ns) (entries : OfWire list (entry_count list) i a b)
+module _ (v : ℕ) (ns ws list os : List ℕ) (k : ℕ) (j : ListRight v ns ws k list os) (limit : ℕ) {ps : List Piece}
+    (g : Gathered (stage_of v ns ws os k) (set_of list) (node_count ns) ps) (i a b : ℕ) (p : i < node_count ns) (entries : OfWire list (entry_count list) i a b)
   where
     -- their bytes have room
     pub wire-room : (out : List ℕ) (at : ℕ) → at ≡ length (records_below (stage_of v ns ws os k) limit (set_of list) i) →
         record_bytes * piece_count (stage_of v ns ws os k) list ≤ length out →
-        at + length (node_fields limit lo w f l i) + record_bytes * (b - a - 1) ≤ length out
+        at + length (node_fields limit ps i) + record_bytes * (b - a - 1) ≤ length out
     unfolding stage_of
     wire-room out at e h =
         let s = stage_of v ns ws os k in
         let q = records_below s limit (set_of list) i in
-        let n = node_fields limit lo w f l i in
+        let n = node_fields limit ps i in
         let t = stretches_fields list i (wire_factor ws i) (wire_layer ws i) a (b - a - 1) in
         let x = ap length (wire-bytes v ns ws list os k j limit g i a b p entries) in
         let y = records-short s limit (set_of list) (i + 1) (omega arith) in
@@ -138,7 +144,7 @@ module _ (v : ℕ) (ns ws list os : List ℕ) (k : ℕ) (j : ListRight v ns ws k
         at ≡ length (records_below (stage_of v ns ws os k) limit (set_of list) i) →
         out ≡ place 0 (records_below (stage_of v ns ws os k) limit (set_of list) i) out₀ →
         record_bytes * piece_count (stage_of v ns ws os k) list ≤ length out₀ →
-        behind ≡ at + length (node_fields limit lo w f l i) → out₁ ≡ place at (node_fields limit lo w f l i) out →
+        behind ≡ at + length (node_fields limit ps i) → out₁ ≡ place at (node_fields limit ps i) out →
         next ≡ behind + record_bytes * (b - a - 1) →
         out₂ ≡ place behind (stretches_fields list i (wire_factor ws i) (wire_layer ws i) a (b - a - 1)) out₁ →
         (next ≡ length (records_below (stage_of v ns ws os k) limit (set_of list) (i + 1)))
@@ -147,7 +153,7 @@ module _ (v : ℕ) (ns ws list os : List ℕ) (k : ℕ) (j : ListRight v ns ws k
     wire-placed out₀ out out₁ out₂ at behind next ae oe room be e₁ ne e₂ =
         let s = stage_of v ns ws os k in
         let q = records_below s limit (set_of list) i in
-        let n = node_fields limit lo w f l i in
+        let n = node_fields limit ps i in
         let t = stretches_fields list i (wire_factor ws i) (wire_layer ws i) a (b - a - 1) in
         let r = wire-bytes v ns ws list os k j limit g i a b p entries in
         let x = ap length r in

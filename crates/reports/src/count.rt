@@ -16,15 +16,7 @@ fn present_count(stage: u8, wires: &[u8], n: usize) -> usize
     requires { wire_bytes * n ≤ length wires.now + wire_bytes }
     ensures { (result ≡ sum n (λ i. χ (ltb 0 i && leb (wire_layer wires.now i) stage) 1)) × (result ≤ n) }
 {
-    let mut count = 0;
-    let mut i = 0;
-    while i < n {
-        if is_present(stage, wires, i) {
-            count += 1;
-        }
-        i += 1;
-    }
-    count
+    (0..n).filter(|&i| is_present(stage, wires, i)).count()
 }
 
 // The number of pieces.

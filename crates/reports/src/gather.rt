@@ -1,87 +1,87 @@
 // The pass by rising wire number: it names the pieces with nodes and adds up their weights, flags and layers.
-ghost use Rattle.std.specs.Prelude.{◌+◌, ◌*◌, ◌^◌, ◌<◌, ◌≤◌, length, get_or};
+ghost use Rattle.std.specs.Prelude.{◌≡◌, ◌+◌, ◌*◌, ◌^◌, ◌<◌, ◌≤◌, length, get_or};
 ghost use Rattle.net.specs.Layout.{most_layers};
 ghost use Rattle.net.specs.Limits.{length_bound, wire_weight_bound};
 ghost use Rattle.net.specs.Net.{node_count, wire_length};
+ghost use Rattle.reports.specs.Gathered.{lowest, weight, flags, layers};
 ghost use Rattle.reports.specs.Gathering.{Named, Added, Joined, Parted};
 ghost use Rattle.records.specs.ListRight.{ListAccepted};
-ghost use Rattle.reports.specs.ListRight.{GatheredBelow, Roomy, AtMost};
+ghost use Rattle.reports.specs.ListRight.{GatheredBelow, AtMost};
 ghost use Rattle.reports.specs.ListRights.{WireReady};
 ghost use Rattle.records.specs.Reached.{Reached};
 
 use lists::entries::entry_position;
 use lists::wire::entries_end;
-use net::fields::{is_present, node_count, node_flags, wire_factor, wire_layer, wire_parent};
+use net::fields::{Wire, is_present, node_at, node_count, wire_at};
 use points::length_of;
+use records::wire::{layers_of, weight_of};
+
+// Of a node, the lowest node of its piece; of a lowest node, the weight, the flags and the layers of its piece.
+#[derive(Clone, Copy)]
+pub struct Piece {
+    pub lowest: usize,
+    pub weight: u64,
+    pub flags: u8,
+    pub layers: u16,
+}
+
+// Before anything is gathered.
+pub const NO_PIECE: Piece = Piece {
+    lowest: 0,
+    weight: 0,
+    flags: 0,
+    layers: 0,
+};
 
 // Node i is in the piece whose lowest node is h: its flags are joined to that piece's.
-fn name_node(lowest: &mut [usize], flags: &mut [u8], i: usize, h: usize, of_node: u8)
-    requires { (i < length lowest.old) × (h < length flags.old) }
-    ensures { Named lowest.old flags.old lowest.new flags.new i h of_node }
+fn name_node(pieces: &mut [Piece], i: usize, h: usize, of_node: u8)
+    requires { (i < length pieces.old) × (h < length pieces.old) }
+    ensures named { Named (lowest pieces.old) (flags pieces.old) (lowest pieces.new) (flags pieces.new) i h of_node }
+    ensures kept { (weight pieces.new ≡ weight pieces.old) × (layers pieces.new ≡ layers pieces.old) }
 {
-    lowest[i] = h;
-    flags[h] = flags[h] | of_node;
+    pieces[i].lowest = h;
+    pieces[h].flags |= of_node;
 }
 
 // Some steps of a wire are in the piece whose lowest node is h.
-fn add_steps(weight: &mut [u64], layers: &mut [u16], h: usize, steps: u32, factor: u8, layer: u8)
-    requires h_in_bounds { (h < length weight.old) × (h < length layers.old) }
-    requires le_layer { (1 ≤ layer) × (layer ≤ most_layers) }
-    requires steps_in_bounds { (steps < length_bound) × (get_or weight.old h 0 + wire_weight_bound ≤ 2 ^ 64) }
-    ensures { Added weight.old layers.old weight.new layers.new h steps factor layer }
+fn add_steps(pieces: &mut [Piece], h: usize, steps: u32, wire: Wire)
+    requires h_in_bounds { h < length pieces.old }
+    requires le_layer { (1 ≤ wire.layer) × (wire.layer ≤ most_layers) }
+    requires steps_in_bounds { (steps < length_bound) × (get_or (weight pieces.old) h 0 + wire_weight_bound ≤ 2 ^ 64) }
+    ensures added { Added (weight pieces.old) (layers pieces.old) (weight pieces.new) (layers pieces.new) h steps wire.factor wire.layer }
+    ensures kept { (lowest pieces.new ≡ lowest pieces.old) × (flags pieces.new ≡ flags pieces.old) }
 {
-    weight[h] = weight[h] + (steps as u64) * (factor as u64);
-    if 0 < steps {
-        layers[h] = layers[h] | 1u16 << (layer - 1);
-    }
+    let piece = &mut pieces[h];
+    piece.weight += weight_of(steps, wire.factor);
+    piece.layers |= layers_of(steps, wire.layer);
 }
 
 // A wire without a jumper: its steps and node i are in its parent's piece.
-fn join_wire(
-    nodes: &[u8],
-    wires: &[u8],
-    i: usize,
-    lowest: &mut [usize],
-    weight: &mut [u64],
-    flags: &mut [u8],
-    layers: &mut [u16],
-)
-    requires { WireReady nodes.now wires.now i lowest.old weight.old flags.old layers.old }
-    ensures { Joined nodes.now wires.now i lowest.old weight.old flags.old layers.old lowest.new weight.new flags.new layers.new
-        × AtMost ((i + 1) * (2 * wire_weight_bound)) weight.new }
+fn join_wire(nodes: &[u8], wires: &[u8], i: usize, pieces: &mut [Piece])
+    requires { WireReady nodes.now wires.now i pieces.old }
+    ensures { Joined nodes.now wires.now i pieces.old pieces.new
+        × AtMost ((i + 1) * (2 * wire_weight_bound)) (weight pieces.new) }
 {
-    let above = lowest[wire_parent(wires, i)];
+    let wire = wire_at(wires, i);
+    let above = pieces[wire.parent].lowest;
     let len = length_of(nodes, wires, i);
-    let factor = wire_factor(wires, i);
-    let layer = wire_layer(wires, i);
-    name_node(lowest, flags, i, above, node_flags(nodes, i));
-    add_steps(weight, layers, above, len, factor, layer);
+    name_node(pieces, i, above, node_at(nodes, i).flags);
+    add_steps(pieces, above, len, wire);
 }
 
 // A wire with jumpers: the steps below the first are in node i's piece, those above the last in its parent's.
-fn part_wire(
-    nodes: &[u8],
-    wires: &[u8],
-    i: usize,
-    first: u32,
-    last: u32,
-    lowest: &mut [usize],
-    weight: &mut [u64],
-    flags: &mut [u8],
-    layers: &mut [u16],
-)
-    requires wire_ready { WireReady nodes.now wires.now i lowest.old weight.old flags.old layers.old }
+fn part_wire(nodes: &[u8], wires: &[u8], i: usize, first: u32, last: u32, pieces: &mut [Piece])
+    requires wire_ready { WireReady nodes.now wires.now i pieces.old }
     requires first_bound { (first < wire_length nodes.now wires.now i) × (last < wire_length nodes.now wires.now i) }
-    ensures { Parted nodes.now wires.now i first last lowest.old weight.old flags.old layers.old lowest.new weight.new flags.new layers.new
-        × AtMost ((i + 1) * (2 * wire_weight_bound)) weight.new }
+    ensures { Parted nodes.now wires.now i first last pieces.old pieces.new
+        × AtMost ((i + 1) * (2 * wire_weight_bound)) (weight pieces.new) }
 {
-    let above = lowest[wire_parent(wires, i)];
+    let wire = wire_at(wires, i);
+    let above = pieces[wire.parent].lowest;
     let len = length_of(nodes, wires, i);
-    let factor = wire_factor(wires, i);
-    let layer = wire_layer(wires, i);
-    name_node(lowest, flags, i, i, node_flags(nodes, i));
-    add_steps(weight, layers, i, first, factor, layer);
-    add_steps(weight, layers, above, len - last, factor, layer);
+    name_node(pieces, i, i, node_at(nodes, i).flags);
+    add_steps(pieces, i, first, wire);
+    add_steps(pieces, above, len - last, wire);
 }
 
 // Node i with its wire, whose entries in the list begin at entry e: where they end.
@@ -92,56 +92,39 @@ fn gather_wire(
     jumpers: &[u8],
     i: usize,
     e: usize,
-    lowest: &mut [usize],
-    weight: &mut [u64],
-    flags: &mut [u8],
-    layers: &mut [u16],
+    pieces: &mut [Piece],
 ) -> usize
     requires list_accepted { ListAccepted nodes.now wires.now stage jumpers.now }
     requires i_bound { (i < node_count nodes.now) × Reached jumpers.now i e }
-    requires roomy { Roomy (node_count nodes.now) lowest.old weight.old flags.old layers.old × AtMost (i * (2 * wire_weight_bound)) weight.old }
-    requires gathered_below { GatheredBelow nodes.now wires.now stage jumpers.now i lowest.old weight.old flags.old layers.old }
-    ensures { Reached jumpers.now (i + 1) result × AtMost ((i + 1) * (2 * wire_weight_bound)) weight.new
-        × GatheredBelow nodes.now wires.now stage jumpers.now (i + 1) lowest.new weight.new flags.new layers.new }
+    requires roomy { (node_count nodes.now ≤ length pieces.old) × AtMost (i * (2 * wire_weight_bound)) (weight pieces.old) }
+    requires gathered_below { GatheredBelow nodes.now wires.now stage jumpers.now i pieces.old }
+    ensures { Reached jumpers.now (i + 1) result × AtMost ((i + 1) * (2 * wire_weight_bound)) (weight pieces.new)
+        × GatheredBelow nodes.now wires.now stage jumpers.now (i + 1) pieces.new }
 {
     let end = entries_end(jumpers, i, e);
     if !is_present(stage, wires, i) {
-        name_node(lowest, flags, i, i, node_flags(nodes, i));
+        name_node(pieces, i, i, node_at(nodes, i).flags);
         return end;
     }
     if e == end {
-        join_wire(nodes, wires, i, lowest, weight, flags, layers);
+        join_wire(nodes, wires, i, pieces);
         return end;
     }
     let first = entry_position(jumpers, e);
     let last = entry_position(jumpers, end - 1);
-    part_wire(nodes, wires, i, first, last, lowest, weight, flags, layers);
+    part_wire(nodes, wires, i, first, last, pieces);
     end
 }
 
 // All nodes and wires by rising number.
-pub fn gather(
-    stage: u8,
-    nodes: &[u8],
-    wires: &[u8],
-    jumpers: &[u8],
-    lowest: &mut [usize],
-    weight: &mut [u64],
-    flags: &mut [u8],
-    layers: &mut [u16],
-)
+pub fn gather(stage: u8, nodes: &[u8], wires: &[u8], jumpers: &[u8], pieces: &mut [Piece])
     requires list_accepted { ListAccepted nodes.now wires.now stage jumpers.now }
-    requires roomy { Roomy (node_count nodes.now) lowest.old weight.old flags.old layers.old }
-    requires at_most { AtMost 0 weight.old × AtMost 0 flags.old × AtMost 0 layers.old }
-    ensures { GatheredBelow nodes.now wires.now stage jumpers.now (node_count nodes.now) lowest.new weight.new flags.new layers.new }
+    requires roomy { (node_count nodes.now ≤ length pieces.old) }
+    requires at_most { AtMost 0 (weight pieces.old) × AtMost 0 (flags pieces.old) × AtMost 0 (layers pieces.old) }
+    ensures { GatheredBelow nodes.now wires.now stage jumpers.now (node_count nodes.now) pieces.new }
 {
-    let count = node_count(nodes);
     let mut e = 0;
-    let mut i = 0;
-    while i < count {
-        e = gather_wire(
-            stage, nodes, wires, jumpers, i, e, lowest, weight, flags, layers,
-        );
-        i += 1;
+    for i in 0..node_count(nodes) {
+        e = gather_wire(stage, nodes, wires, jumpers, i, e, pieces);
     }
 }

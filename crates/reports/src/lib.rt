@@ -4,6 +4,5 @@
 pub mod count;
 mod gather;
 pub mod one_pass;
-mod record;
 pub mod report;
 mod write;

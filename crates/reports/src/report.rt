@@ -1,49 +1,81 @@
-// The report on a net file at a stage, and its work.
-ghost use Rattle.std.specs.Prelude.{◌≡◌, List, ℕ, length};
-ghost use Rattle.net.specs.Stage.{stage_of};
+// The report on a net file at a stage, and its work; its records come from the pieces that a first pass gathers.
+ghost use Rattle.std.specs.Prelude.{◌≡◌, length};
+ghost use Rattle.net.specs.AcceptedNet.{stage_of_net};
+ghost use Rattle.net.specs.Numbers.{checked, answered};
+ghost use Rattle.pieces.specs.JumperList.{list_refusal};
+ghost use Rattle.records.specs.Held.{RecordsFit};
+ghost use Rattle.records.specs.ListRight.{ListAccepted, AtAccepted};
 ghost use Rattle.reports.specs.Promise.{pieces_buffer, report_answer, report_buffer};
-ghost use Rattle.records.specs.ListRight.{ListRight, ListAccepted};
-ghost use Rattle.reports.specs.ListRight.{RecordsFit};
 
 use crate::count::piece_count;
-use crate::gather::gather;
+use crate::gather::{NO_PIECE, gather};
 use crate::write::write_records;
 use lists::check::list_refusal;
-use net::answers::{answered, none, refused};
-use net::call::call_refusal;
+use net::Net;
+use net::call::accepted_net;
 use net::layout::{MOST_NODES, RECORD_BYTES};
-use net::{Answer, sections};
+use net::refusal::Refusal;
 
-// What is tried, in order: 1, 2 to 11 and 20, 12 to 14, 16; then the records are written.
-pub fn report(stage: u32, limit: u32, file: &[u8], jumpers: &[u8], out: &mut [u8]) -> Answer
-    ensures { (result ≡ report_answer stage file.now jumpers.now (length out.old))
+// The steps of a report that can be done in more than one way.
+pub trait Steps {
+    // 12 to 14.
+    fn check(net: Net, stage: u8, jumpers: &[u8]) -> Result<(), Refusal>
+        ensures { checked result ≡ list_refusal (stage_of_net net.entry stage) jumpers.now };
+
+    // The records of all pieces, once 16 has been tried.
+    fn write(stage: u8, limit: u32, nodes: &[u8], wires: &[u8], jumpers: &[u8], out: &mut [u8])
+        requires list_accepted { ListAccepted nodes.now wires.now stage jumpers.now }
+        requires records_fit { RecordsFit nodes.now wires.now stage jumpers.now limit out.old }
+        ensures { AtAccepted nodes.now wires.now stage jumpers.now (λ s. out.new ≡ pieces_buffer s limit jumpers.now out.old) };
+}
+
+// What is tried, in order: 1, 2 to 11 and 20, 12 to 14, 16; then the records are written, and their number is answered.
+pub fn report_by<S: Steps>(
+    stage: u32,
+    limit: u32,
+    file: &[u8],
+    jumpers: &[u8],
+    out: &mut [u8],
+) -> Result<u64, Refusal>
+    ensures { (answered result ≡ report_answer stage file.now jumpers.now (length out.old))
         × (out.new ≡ report_buffer stage limit file.now jumpers.now out.old) }
 {
-    let of_call = call_refusal(stage, file);
-    if of_call.number != 0 {
-        return answered(of_call, 0);
-    }
+    let net = accepted_net(stage, file)?;
     let k = stage as u8;
-    let nodes = sections::nodes(file);
-    let wires = sections::wires(file);
-    let of_list = list_refusal(
-        sections::version(file),
-        k,
-        nodes,
-        wires,
-        sections::obstacles(file),
-        jumpers,
-    );
-    if of_list.number != 0 {
-        return answered(of_list, 0);
-    }
-    let records = piece_count(k, nodes, wires, jumpers);
+    S::check(net, k, jumpers)?;
+    let records = piece_count(k, net.nodes, net.wires, jumpers);
     let needed = RECORD_BYTES * records;
     if out.len() < needed {
-        return answered(refused(16, needed as u64), 0);
+        return Err(Refusal::LentBuffer(needed as u64));
     }
-    write_pieces(k, limit, nodes, wires, jumpers, out);
-    answered(none(), records as u64)
+    S::write(k, limit, net.nodes, net.wires, jumpers, out);
+    Ok(records as u64)
+}
+
+// Entry after entry is checked by itself, and the pieces are gathered before their records are written.
+struct Gathering;
+
+impl Steps for Gathering {
+    fn check(net: Net, stage: u8, jumpers: &[u8]) -> Result<(), Refusal> {
+        list_refusal(net, stage, jumpers)
+    }
+
+    fn write(stage: u8, limit: u32, nodes: &[u8], wires: &[u8], jumpers: &[u8], out: &mut [u8]) {
+        write_pieces(stage, limit, nodes, wires, jumpers, out);
+    }
+}
+
+pub fn report(
+    stage: u32,
+    limit: u32,
+    file: &[u8],
+    jumpers: &[u8],
+    out: &mut [u8],
+) -> Result<u64, Refusal>
+    ensures { (answered result ≡ report_answer stage file.now jumpers.now (length out.old))
+        × (out.new ≡ report_buffer stage limit file.now jumpers.now out.old) }
+{
+    report_by::<Gathering>(stage, limit, file, jumpers, out)
 }
 
 // The work on an accepted net with an accepted list, once 16 has been tried: the records of all pieces.
@@ -56,25 +88,10 @@ pub fn write_pieces(
     out: &mut [u8],
 )
     requires list_accepted { ListAccepted nodes.now wires.now stage jumpers.now }
-    requires records_fit { RecordsFit nodes.now wires.now stage jumpers.now out.old }
-    ensures { (v : ℕ) (os : List ℕ) → ListRight v nodes.now wires.now stage jumpers.now os →
-        out.new ≡ pieces_buffer (stage_of v nodes.now wires.now os stage) limit jumpers.now out.old }
+    requires records_fit { RecordsFit nodes.now wires.now stage jumpers.now limit out.old }
+    ensures { AtAccepted nodes.now wires.now stage jumpers.now (λ s. out.new ≡ pieces_buffer s limit jumpers.now out.old) }
 {
-    let mut lowest = [0usize; MOST_NODES];
-    let mut weight = [0u64; MOST_NODES];
-    let mut flags = [0u8; MOST_NODES];
-    let mut layers = [0u16; MOST_NODES];
-    gather(
-        stage,
-        nodes,
-        wires,
-        jumpers,
-        &mut lowest,
-        &mut weight,
-        &mut flags,
-        &mut layers,
-    );
-    write_records(
-        stage, limit, nodes, wires, jumpers, &lowest, &weight, &flags, &layers, out,
-    );
+    let mut pieces = [NO_PIECE; MOST_NODES];
+    gather(stage, nodes, wires, jumpers, &mut pieces);
+    write_records(stage, limit, nodes, wires, jumpers, &pieces, out);
 }

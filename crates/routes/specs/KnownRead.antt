@@ -1,6 +1,6 @@
 -- A point is known on a layer if some point of the text stands there: what reading the text again tells.
 -- Assumes nothing.
-use Rattle.std.specs.Prelude.{ℕ, ◌≡◌, refl, ◌||◌, ltb, length}
+use Rattle.std.specs.Prelude.{ℕ, ◌≡◌, refl, ◌||◌, is_some, length}
 use Rattle.std.proofs.Common.{◌∙◌}
 use Rattle.std.proofs.Math.Path.{sym}
 use Rattle.std.proofs.Math.Bool.{or_assoc}
@@ -25,7 +25,7 @@ module _ (x y layer : ℕ) where
       (or_assoc (known nodes x y layer) (t p) (passes t points))
 
 pub known_read : (text : List ℕ) (place x y layer : ℕ)
-    → known (route_nodes text place) x y layer ≡ ltb (first_read text place (length (points_of text place)) x y layer layer) (length (points_of text place))
+    → known (route_nodes text place) x y layer ≡ is_some (first_read text place (length (points_of text place)) x y layer layer)
 unfolding route_nodes first_read known any
 known_read text place x y layer =
     known_from x y layer [] no_point (points_of text place) ∙ sym (first-whole (stands_within x y layer layer) (points_of text place))

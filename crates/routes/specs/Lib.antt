@@ -1,7 +1,6 @@
 -- The root.
 pub mod Nodes
 pub mod Table
-pub mod Entries
 pub mod Placing
 pub mod Reaching
 pub mod Holding

@@ -1,21 +1,17 @@
 -- The nodes of a route, the wires they hang by, and 18. Document 02, routes from DEF.
 -- Assumes nothing.
-use Rattle.std.specs.Prelude.{ℕ, Bool, false, not, ◌&&◌, cond, List, [], ◌∷◌, ◌++◌, eqb, ltb, length, get_or}
+use Rattle.std.specs.Prelude.{ℕ, Bool, false, not, ◌&&◌, cond, List, [], ◌∷◌, ◌++◌, Result, Ok, Err, eqb, ltb, length, get_or}
 use Rattle.laws.specs.Sum.{any, lowest}
 use Rattle.net.specs.Refusal.{Verdict, none, refusal, refused_if, or_else}
 use Rattle.paths.specs.declared.Point.{Point}
+use Rattle.paths.specs.declared.Wrong.{Wrong}
 use Rattle.paths.specs.declared.Read.{Read}
-use Rattle.paths.specs.declared.Read.TheVariants.{Wrong, End, Whole}
+use Rattle.paths.specs.declared.Read.TheVariants.{End, Whole}
 use Rattle.paths.specs.Form.{points_of, ending_of}
-
 -- a node: a point on a layer; the node it hangs on, and the layer of the wire or via between them
-pub record Node : Type 0 where
-  pub x : ℕ
-  pub y : ℕ
-  pub layer : ℕ
-  pub parent : ℕ
-  pub wire : ℕ
+pub use Rattle.routes.specs.declared.Node.{Node}
 
+-- where there is no node
 abbrev pub no_node : Node
 no_node = record { x = 0; y = 0; layer = 0; parent = 0; wire = 0 }
 
@@ -76,10 +72,9 @@ points_refusal nodes before [] = none
 points_refusal nodes before (p ∷ points) = or_else (refused_if (point_refused nodes p) 18 p.at) (points_refusal (reach nodes before p) p points)
 
 -- 17: the text leaves the form
-unfoldable pub form_refusal : Read → Verdict
-form_refusal (Wrong at) = refusal 17 at
-form_refusal (End next) = none
-form_refusal (Whole p next) = none
+unfoldable pub form_refusal : Result Read Wrong → Verdict
+form_refusal (Err w) = refusal 17 w.0
+form_refusal (Ok read) = none
 
 -- before the first point there is none
 abbrev pub no_point : Point
@@ -93,10 +88,10 @@ route_refusal text place = or_else (points_refusal [] no_point (points_of text p
 unfoldable pub route_nodes : List ℕ → ℕ → List Node
 route_nodes text place = nodes_from [] no_point (points_of text place)
 
-unfoldable pub end_of : Read → ℕ
-end_of (Wrong at) = at
-end_of (End next) = next
-end_of (Whole p next) = next
+unfoldable pub end_of : Result Read Wrong → ℕ
+end_of (Err w) = w.0
+end_of (Ok (End next)) = next
+end_of (Ok (Whole p next)) = next
 
 unfoldable pub route_end : List ℕ → ℕ → ℕ
 route_end text place = end_of (ending_of text place)

@@ -2,35 +2,42 @@
 // Definitions: specs/.
 #![tactic(auto)]
 
+use net::layout::MOST_NODES;
+
 pub mod reader;
 pub mod reading;
 pub mod table;
 
-// What reading a route hands out: 17, 18 or 0 and its place, or the place after `;`; the number of points; the number of nodes, 257 for more than 256; the first nodes, each
-// in one number: x, y (16 bits each), layer, parent, layer of its wire (8 each).
-#[derive(Clone, Copy)]
-pub struct Route {
-    pub number: u32,
-    pub place: usize,
-    pub points: usize,
-    pub count: usize,
-    pub nodes: [u64; 256],
-}
-
-// What a point does to the nodes found so far: whether it is refused, whether it is a node already, its node's number, and what a new node hangs on and by.
-#[derive(Clone, Copy)]
-pub struct Placed {
-    pub refused: bool,
-    pub known: bool,
-    pub node: usize,
-    pub parent: usize,
+// A node: a point on a layer; the node it hangs on, and the layer of the wire or via between them.
+#[derive(Clone, Copy, Debug, Default, PartialEq, Eq)]
+pub struct Node {
+    pub x: u16,
+    pub y: u16,
+    pub layer: u8,
+    pub parent: u8,
     pub wire: u8,
 }
 
-// What taking a point leads to: 18, or the counts that follow.
+// A route: the place after `;`, the number of its points, that of its nodes where it has no more than 256, and the first nodes.
 #[derive(Clone, Copy)]
-pub struct Taken {
-    pub refused: bool,
+pub struct Route {
+    pub end: usize,
+    pub points: usize,
+    pub count: Option<usize>,
+    pub nodes: [Node; MOST_NODES],
+}
+
+// What a point does to the nodes found so far: 18, nothing to the node that it is, or a new node, what it hangs on and by.
+#[derive(Clone, Copy)]
+pub enum Placed {
+    Refused,
+    Known(usize),
+    New { parent: usize, wire: u8 },
+}
+
+// The nodes found so far, where the table has them all: how many, and which is that of the point before.
+#[derive(Clone, Copy)]
+pub struct Found {
     pub count: usize,
     pub last: usize,
 }

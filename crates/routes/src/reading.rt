@@ -1,59 +1,38 @@
 // The route read point by point: 17, 18 and its nodes.
-ghost use Rattle.std.specs.Prelude.{◌≡◌, cond, List, ◌∷◌, eqb, ltb, length};
+ghost use Rattle.std.specs.Prelude.{◌≡◌, cond, List, ◌∷◌, is_some, is_none, length};
 ghost use Rattle.paths.specs.Again.{first_read};
 ghost use Rattle.paths.specs.Form.{points_of};
 ghost use Rattle.routes.specs.Reached.{Reached, Took};
 ghost use Rattle.routes.specs.Table.{RouteRead};
 
-use crate::table::{pack, place_point};
-use crate::{Route, Taken};
+use crate::table::place_point;
+use crate::{Found, Node, Placed, Route};
 use net::layout::MOST_NODES;
+use net::refusal::Refusal;
 use paths::{Point, Read, begin, first_read, next_point, start_of};
 
 // Reads the route from a place on.
-pub fn read_route(text: &[u8], place: usize) -> Route
+pub fn read_route(text: &[u8], place: usize) -> Result<Route, Refusal>
     ensures { RouteRead text.now place result }
 {
-    let mut nodes = [0; 256];
-    let mut count = 0;
-    let mut last = 0;
+    let mut nodes = [Node::default(); MOST_NODES];
+    let mut found = Some(Found { count: 0, last: 0 });
     let mut points = 0;
-    let mut read = begin(text, start_of(text, place));
+    let mut read = begin(text, start_of(text, place)).map_err(|w| Refusal::RouteForm(w.0 as u64))?;
     loop {
         match read {
-            Read::Wrong(at) => {
-                return Route {
-                    number: 17,
-                    place: at,
+            Read::End(end) => {
+                return Ok(Route {
+                    end,
                     points,
-                    count,
+                    count: found.map(|f| f.count),
                     nodes,
-                };
-            }
-            Read::End(next) => {
-                return Route {
-                    number: 0,
-                    place: next,
-                    points,
-                    count,
-                    nodes,
-                };
+                });
             }
             Read::Whole(p, next) => {
-                let t = take_point(text, place, points, &mut nodes, count, last, p);
-                if t.refused {
-                    return Route {
-                        number: 18,
-                        place: p.at,
-                        points,
-                        count,
-                        nodes,
-                    };
-                }
-                count = t.count;
-                last = t.last;
+                found = take_point(text, place, points, &mut nodes, found, p)?;
                 points += 1;
-                read = next_point(text, next, p);
+                read = next_point(text, next, p).map_err(|w| Refusal::RouteForm(w.0 as u64))?;
             }
         }
     }
@@ -64,60 +43,62 @@ fn take_point(
     text: &[u8],
     place: usize,
     points: usize,
-    nodes: &mut [u64],
-    count: usize,
-    last: usize,
+    nodes: &mut [Node],
+    found: Option<Found>,
     p: Point,
-) -> Taken
-    requires { (length nodes.old ≡ 256) × ((rest : List Point) × Reached (points_of text.now place) (p ∷ rest) points count last nodes.old) }
-    ensures { (rest : List Point) → Reached (points_of text.now place) (p ∷ rest) points count last nodes.old → Took (points_of text.now place) rest points p result nodes.new }
+) -> Result<Option<Found>, Refusal>
+    requires { (length nodes.old ≡ 256) × ((rest : List Point) × Reached (points_of text.now place) (p ∷ rest) points found nodes.old) }
+    ensures { (rest : List Point) → Reached (points_of text.now place) (p ∷ rest) points found nodes.old → Took (points_of text.now place) rest points p result nodes.new }
 {
-    if MOST_NODES < count {
-        return Taken {
-            refused: is_refused(text, place, points, p),
-            count,
-            last,
-        };
-    }
-    let at = place_point(nodes, count, last, p);
-    if at.refused {
-        return Taken {
-            refused: true,
-            count,
-            last,
-        };
-    }
-    if at.known {
-        return Taken {
-            refused: false,
-            count,
-            last: at.node,
-        };
-    }
-    let taken = Taken {
-        refused: false,
-        count: count + 1,
-        last: at.node,
+    let refused = Refusal::RoutePoint(p.at as u64);
+    let Some(f) = found else {
+        if is_refused(text, place, points, p) {
+            return Err(refused);
+        }
+        return Ok(None);
     };
-    if count == MOST_NODES {
-        return taken;
+    let count = f.count;
+    match place_point(&nodes[..count], f.last, p) {
+        Placed::Refused => Err(refused),
+        Placed::Known(node) => Ok(Some(Found { count, last: node })),
+        Placed::New { parent, wire } => {
+            if count == MOST_NODES {
+                return Ok(None);
+            }
+            nodes[count] = Node {
+                x: p.x,
+                y: p.y,
+                layer: p.layer,
+                parent: parent as u8,
+                wire,
+            };
+            Ok(Some(Found {
+                count: count + 1,
+                last: count,
+            }))
+        }
     }
-    nodes[count] = pack(p, at.parent, at.wire);
-    taken
 }
 
 // 18 on a point past the table, by reading the text again.
 fn is_refused(text: &[u8], place: usize, points: usize, p: Point) -> bool
-    ensures { result ≡ cond p.first (eqb (first_read text.now place points p.x p.y 0 255) points) (ltb (first_read text.now place points p.x p.y p.layer p.layer) points) }
+    ensures { result ≡ cond p.first (is_none (first_read text.now place points p.x p.y 0 255)) (is_some (first_read text.now place points p.x p.y p.layer p.layer)) }
 {
     if p.first {
-        return first_read(text, place, points, p.x, p.y, 0, 255) == points;
+        return first_read(text, place, points, p.x, p.y, 0, 255).is_none();
     }
-    first_read(text, place, points, p.x, p.y, p.layer, p.layer) < points
+    first_read(text, place, points, p.x, p.y, p.layer, p.layer).is_some()
 }
 
-// Reads the text again: the first of its first `points` points at x, y on the layer, or `points` where there is none.
-pub fn read_again(text: &[u8], place: usize, points: usize, x: u16, y: u16, layer: u8) -> usize
+// Reads the text again: which of its first `points` points is the first at x, y on the layer.
+pub fn read_again(
+    text: &[u8],
+    place: usize,
+    points: usize,
+    x: u16,
+    y: u16,
+    layer: u8,
+) -> Option<usize>
     ensures { result ≡ first_read text.now place points x y layer layer }
 {
     first_read(text, place, points, x, y, layer, layer)

@@ -1,124 +1,74 @@
 // The table of the first nodes: nodes found in it, and a point placed among them.
-ghost use Rattle.std.specs.Prelude.{◌≡◌, true, List, ℕ, ◌+◌, ◌*◌, ◌/◌, ◌%◌, ◌≤◌, ◌<◌, length};
-ghost use Rattle.routes.specs.Nodes.{Node, number_on, lowest_at, higher};
-ghost use Rattle.routes.specs.Table.{packed, TableHolds, placed};
+ghost use Rattle.std.specs.Prelude.{◌≡◌, true, ℕ, ◌≤◌, cond, take, length, IsSomeAnd};
+ghost use Rattle.net.specs.Layout.{most_nodes};
+ghost use Rattle.routes.specs.Nodes.{known, known_at, number_on, lowest_at};
+ghost use Rattle.routes.specs.Table.{placed};
 
-use crate::Placed;
+use crate::{Node, Placed, Route};
 use paths::Point;
 
-// What y, layer, parent and the wire's layer are multiplied by in an entry.
-const Y: u64 = 65536;
-
-const LAYER: u64 = 4294967296;
-
-pub const PARENT: u64 = 1099511627776;
-
-pub const WIRE: u64 = 281474976710656;
+impl Route {
+    // Its nodes, where the table has them all.
+    pub fn found(&self) -> Option<&[Node]>
+        ensures none { self.now.count ≡ None → result ≡ None }
+        ensures some { (n : ℕ) → self.now.count ≡ Some n → n ≤ most_nodes → IsSomeAnd result (λ x. (x.now ≡ take n self.now.nodes) × (length x.now ≡ n)) }
+    {
+        self.nodes.get(..self.count?)
+    }
+}
 
 // A point among the nodes found so far.
-pub fn place_point(nodes: &[u64], count: usize, last: usize, p: Point) -> Placed
-    requires { (count ≤ length nodes.now) × (count ≤ 256) }
-    ensures { (found : List Node) → length found ≡ count → TableHolds found nodes.now → result ≡ placed found last p }
+pub fn place_point(nodes: &[Node], last: usize, p: Point) -> Placed
+    ensures { result ≡ placed nodes.now last p }
 {
-    let node = node_on(nodes, count, p.x, p.y, p.layer);
+    let on = node_on(nodes, p.x, p.y, p.layer);
     if p.first {
-        return place_first(nodes, count, node, p);
+        return place_first(nodes, on, p);
     }
-    Placed {
-        refused: node < count,
-        known: node < count,
-        node,
-        parent: last,
-        wire: p.layer,
+    match on {
+        Some(_) => Placed::Refused,
+        None => Placed::New {
+            parent: last,
+            wire: p.layer,
+        },
     }
 }
 
-// A path's first point among the nodes found so far; `node` is its number on the path's layer.
-fn place_first(nodes: &[u64], count: usize, node: usize, p: Point) -> Placed
-    requires { (count ≤ length nodes.now) × (count ≤ 256) }
-    ensures { (found : List Node) (last : ℕ) → length found ≡ count → TableHolds found nodes.now → node ≡ number_on found p.x p.y p.layer → p.first ≡ true → result ≡ placed found last p }
+// A path's first point among the nodes found so far; `on` is its number on the path's layer.
+fn place_first(nodes: &[Node], on: Option<usize>, p: Point) -> Placed
+    requires { (p.first ≡ true) × (on ≡ cond (known nodes.now p.x p.y p.layer) (Some (number_on nodes.now p.x p.y p.layer)) None) }
+    ensures { (last : ℕ) → result ≡ placed nodes.now last p }
 {
-    let layer = p.layer;
-    let via = node_at(nodes, count, p.x, p.y);
-    if via == count {
-        return Placed {
-            refused: count != 0,
-            known: false,
-            node,
+    let Some(via) = node_at(nodes, p.x, p.y) else {
+        if nodes.is_empty() {
+            return Placed::New {
+                parent: 0,
+                wire: p.layer,
+            };
+        }
+        return Placed::Refused;
+    };
+    match on {
+        Some(node) => Placed::Known(node),
+        None => Placed::New {
             parent: via,
-            wire: layer,
-        };
-    }
-    Placed {
-        refused: false,
-        known: node < count,
-        node,
-        parent: via,
-        wire: higher_of(layer, layer_of(nodes[via])),
+            wire: p.layer.max(nodes[via].layer),
+        },
     }
 }
 
-// The number of the node at x, y on a layer, or count where there is none.
-pub fn node_on(nodes: &[u64], count: usize, x: u16, y: u16, layer: u8) -> usize
-    requires { (count ≤ length nodes.now) × (count ≤ 256) }
-    ensures { (result ≤ count) × ((found : List Node) → length found ≡ count → TableHolds found nodes.now → result ≡ number_on found x y layer) }
+// The number of the node at x, y on a layer.
+pub fn node_on(nodes: &[Node], x: u16, y: u16, layer: u8) -> Option<usize>
+    ensures { result ≡ cond (known nodes.now x y layer) (Some (number_on nodes.now x y layer)) None }
 {
-    let wanted = pack_point(x, y) + LAYER * (layer as u64);
-    let mut i = 0;
-    while i < count {
-        if nodes[i] % PARENT == wanted {
-            return i;
-        }
-        i += 1;
-    }
-    count
+    nodes
+        .iter()
+        .position(|n| n.x == x && n.y == y && n.layer == layer)
 }
 
-// The lowest number of a node at x, y, or count where there is none.
-fn node_at(nodes: &[u64], count: usize, x: u16, y: u16) -> usize
-    requires { (count ≤ length nodes.now) × (count ≤ 256) }
-    ensures { (result ≤ count) × ((found : List Node) → length found ≡ count → TableHolds found nodes.now → result ≡ lowest_at found x y) }
+// The lowest number of a node at x, y.
+fn node_at(nodes: &[Node], x: u16, y: u16) -> Option<usize>
+    ensures { result ≡ cond (known_at nodes.now x y) (Some (lowest_at nodes.now x y)) None }
 {
-    let wanted = pack_point(x, y);
-    let mut i = 0;
-    while i < count {
-        if nodes[i] % LAYER == wanted {
-            return i;
-        }
-        i += 1;
-    }
-    count
-}
-
-fn pack_point(x: u16, y: u16) -> u64
-    ensures { result ≡ x + 65536 * y }
-{
-    (x as u64) + Y * (y as u64)
-}
-
-// A point as an entry of the table.
-pub fn pack(p: Point, parent: usize, wire: u8) -> u64
-    requires { parent < 256 }
-    ensures { result ≡ packed p.x p.y p.layer parent wire }
-{
-    pack_point(p.x, p.y)
-        + LAYER * (p.layer as u64)
-        + PARENT * (parent as u64)
-        + WIRE * (wire as u64)
-}
-
-// The layer of an entry.
-fn layer_of(entry: u64) -> u8
-    ensures { result ≡ entry / 4294967296 % 256 }
-{
-    (entry / LAYER % 256) as u8
-}
-
-fn higher_of(a: u8, b: u8) -> u8
-    ensures { result ≡ higher a b }
-{
-    if a < b {
-        return b;
-    }
-    a
+    nodes.iter().position(|n| n.x == x && n.y == y)
 }

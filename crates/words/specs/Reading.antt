@@ -1,172 +1,153 @@
 -- What each test of the code shows of a word.
 -- Assumes nothing.
-use Prim.Native.Nat.{ℕ, suc, ◌+◌, ◌-◌, ◌*◌, ◌^◌, ◌<◌, ◌≤◌}
-use Rattle.std.specs.Prelude.{◌≡◌, refl, Bool, true, false, cond, List, [], ◌∷◌, take, drop, get_or}
+use Prim.Native.Nat.{ℕ, ◌+◌, ◌-◌, ◌*◌, ◌^◌, ◌<◌, ◌≤◌, min}
+use Rattle.std.specs.Prelude.{◌≡◌, refl, true, false, not, ◌&&◌, List, [], ◌∷◌, Some, None, Result, Ok, Err, eqb, ltb, take, drop, get_or}
+use Rattle.std.specs.List.{prefix_len}
+use Rattle.std.specs.Result.{OkIff, result_ok}
+use Rattle.std.specs.Char.{is_ascii_digit}
 use Rattle.std.proofs.Math.Bool.{and-false}
-use Rattle.std.proofs.Common.{add-one, lit<, drop-cons}
+use Rattle.std.proofs.Common.{◌∙◌, add-one, lit<, drop-cons, drop_of_length-le}
 use native.Mathlib.Omega.{arith}
-use Rattle.std.proofs.Math.Nat.{pow-succ', one-le-pow, pow-le-pow_right}
-use Rattle.std.proofs.Math.ListN.{length, length-drop}
-use Rattle.std.proofs.Math.Seq.{length-take-le, take_at, drop_at, take-add, drop-drop}
-use borrow.Author.Tests.{lt-ltb, le-ltb}
-use Rattle.laws.specs.Sums.{by}
-use Rattle.words.specs.declared.Word.{Word}
-use Rattle.words.specs.WordsLaws.{spelling-length}
-use Rattle.words.specs.Words.{spelling, same, digit, digits, value_from, is_number, number_of, metal_word, layer_digits, layer_of}
+use Rattle.std.proofs.Math.Nat.{pow-succ', pow-le-pow_right}
+use Rattle.std.proofs.Math.ListN.{length}
+use borrow.Author.Tests.{lt-ltb, le-ltb, eq-eqb}
+use Rattle.std.proofs.lemmas.Bool.Decides.{nat_tests}
+use Rattle.std.proofs.lemmas.Bool.{ltb-true, ltb-false, not-true, eqb-true}
+use Rattle.std.proofs.lemmas.List.{drop_min}
+use Rattle.std.proofs.Math.Seq.{drop-drop}
+use Rattle.laws.specs.Place.{part-all}
+use Rattle.laws.specs.Sums.{and_left, and_right, not_true_false}
+use Rattle.words.specs.Words.{blank, word_start, word_end, word_from, spelling, digit, digits, value_from, is_number, spelled_number, layer_digits}
 
--- the bytes from one place to another: the first, and those behind it
-abbrev pub part : List ℕ → ℕ → ℕ → List ℕ
-part text i e = take (e - i) (drop i text)
+-- the first word from a place on: what is left of the text, and of the word
+abbrev pub part : List ℕ → ℕ → List ℕ
+part text i = take (length text - i) (drop i text)
 
-pub part_none : (text : List ℕ) (i e : ℕ) → e ≤ i → part text i e ≡ []
-part_none text i e h = let z : e - i ≡ 0 = omega arith in rw z
+module _ (text : List ℕ) (place m blanks others : ℕ) (e : m ≡ min place (length text)) (b : blanks ≡ prefix_len blank (part text m))
+    (o : others ≡ prefix_len (λ b. not (blank b)) (part (part text m) blanks)) where
+  rest-is : part text m ≡ drop place text
+  rest-is = part-all m text ∙ rw e (drop_min place text)
 
-pub part-cons : (text : List ℕ) (i e : ℕ) → i < e → e ≤ length text → part text i e ≡ get_or text i 0 ∷ part text (i + 1) e
-part-cons text i e h k =
-    let n : e - i ≡ suc (e - (i + 1)) = omega arith in
-    let l : i < length text = omega arith in
-    rw (n, drop-cons text i 0 l, add-one i)
+  word-is : part (part text m) blanks ≡ drop (place + blanks) text
+  word-is = part-all blanks (part text m) ∙ rw rest-is (drop-drop blanks place text)
+
+  pub at-is : place + blanks ≡ word_start text place
+  unfolding word_start
+  at-is = rw (b, rest-is)
+
+  pub next-is : place + blanks + others ≡ word_end text (word_start text place)
+  unfolding word_end
+  next-is = rw (← at-is, o, word-is)
+
+  pub bytes-is : take others (part (part text m) blanks) ≡ spelling text (word_from text place)
+  unfolding spelling
+  bytes-is =
+      let n : place + blanks + others - (place + blanks) ≡ others = omega arith in
+      rw (← next-is, ← at-is, n, word-is)
 
 -- a digit
-pub digit-yes : (b : ℕ) → 48 ≤ b → b ≤ 57 → digit b ≡ true
+digit-ascii : (b : ℕ) → digit b ≡ is_ascii_digit b
 unfolding digit
-digit-yes b h k = rw (le-ltb b 48 h) (lt-ltb b 58 (omega arith))
-
-pub digit_low : (b : ℕ) → b < 48 → digit b ≡ false
-unfolding digit
-digit_low b h = rw (lt-ltb b 48 h)
-
-digit-high : (b : ℕ) → 57 < b → digit b ≡ false
-unfolding digit
-digit-high b h = rw (le-ltb b 48 (omega arith)) (le-ltb b 58 (omega arith))
-
--- the number of a word, or 65,536
-abbrev pub number_or : List ℕ → ℕ
-number_or w = cond (is_number w) (number_of w) 65536
+digit-ascii b = grind (arith, nat_tests)
 
 -- a word read up to i, with the value v: what is left of it decides, behind v, as the whole word does
-pub record ReadUpTo (text : List ℕ) (at next v i : ℕ) : Type 0 where
-  pub from : at ≤ i
-  pub within : i ≤ next
-  pub below : v < 10 ^ (i - at)
-  pub all : digits (part text i next) ≡ digits (part text at next)
-  pub value : value_from v (part text i next) ≡ value_from 0 (part text at next)
+pub record ReadUpTo (w : List ℕ) (v i : ℕ) : Type 0 where
+  pub below : v < 10 ^ i
+  pub all : digits (drop i w) ≡ digits w
+  pub value : value_from v (drop i w) ≡ value_from 0 w
 
-module _ (text : List ℕ) (w : Word) (h : w.at ≤ w.next) (k : w.next ≤ length text) where
-  pub number-empty : w.next ≡ w.at → 65536 ≡ number_or (spelling text w)
+module _ (w : List ℕ) where
+  pub number-empty : length w ≡ 0 → None ≡ spelled_number w
   unfolding is_number
-  number-empty e = let z : length (spelling text w) ≡ 0 = omega (arith, spelling-length text w h k) in rw z
+  number-empty e = rw e
 
-  pub number-long : 5 < w.next - w.at → 65536 ≡ number_or (spelling text w)
+  pub number-long : 5 < length w → None ≡ spelled_number w
   unfolding is_number
-  number-long l = rw (le-ltb (length (spelling text w)) 6 (omega (arith, spelling-length text w h k)), and-false)
+  number-long l = rw (le-ltb (length w) 6 (omega arith), and-false)
 
-  pub read_none : ReadUpTo text w.at w.next 0 w.at
-  read_none = record { from = omega arith; within = h; below = one-le-pow _ 10 (lit< tt); all = refl; value = refl }
+  pub read_none : ReadUpTo w 0 0
+  read_none = record { below = lit< tt; all = refl; value = refl }
 
-  module _ (v i : ℕ) (r : ReadUpTo text w.at w.next v i) where
+  module _ (v i : ℕ) (r : ReadUpTo w v i) where
     -- the next byte
-    module _ (l : i < w.next) where
-      pub value-fits : w.next - w.at ≤ 5 → v < 10000
-      value-fits n = omega (arith, pow-le-pow_right {n = 10} (lit< tt) {i = i - w.at} {j = 4} (omega arith))
+    module _ (l : i < length w) where
+      pub value-fits : length w ≤ 5 → v < 10000
+      value-fits n = omega (arith, pow-le-pow_right {n = 10} (lit< tt) {i = i} {j = 4} (omega arith))
 
-      module _ (b : ℕ) (e : b ≡ get_or text i 0) where
-        number_other : digit b ≡ false → 65536 ≡ number_or (spelling text w)
-        unfolding digits is_number spelling
-        number_other d = simp (← r.all, part-cons text i w.next l k, ← e, d, and-false)
+      pub number_other : is_ascii_digit (get_or w i 0) ≡ false → None ≡ spelled_number w
+      unfolding digits is_number
+      number_other d = simp (← r.all, drop-cons w i 0 l, digit-ascii, d, and-false)
 
-        pub number-low : b < 48 → 65536 ≡ number_or (spelling text w)
-        number-low g = number_other (digit_low b g)
-
-        pub number-high : 57 < b → 65536 ≡ number_or (spelling text w)
-        number-high g = number_other (digit-high b g)
-
-        pub read_more : 48 ≤ b → b ≤ 57 → ReadUpTo text w.at w.next (10 * v + (b - 48)) (i + 1)
-        unfolding digits value_from
-        read_more low high =
-            let s = part-cons text i w.next l k in
-            let n : i + 1 - w.at ≡ suc (i - w.at) = omega arith in
-            record {
-              from = omega arith;
-              within = omega arith;
-              below = rw (n, pow-succ' 10 (i - w.at)) (omega arith);
-              all = rw (← r.all, s, ← e, digit-yes b low high);
-              value = rw (← r.value, s, ← e);
-            }
+      pub read_more : is_ascii_digit (get_or w i 0) ≡ true → ReadUpTo w (10 * v + (get_or w i 0 - 48)) (i + 1)
+      unfolding digits value_from
+      read_more d =
+          let s = drop-cons w i 0 l in
+          let b : get_or w i 0 ≤ 57 = grind (arith, nat_tests, d) in
+          record {
+            below = rw (add-one i, pow-succ' 10 i) (omega arith);
+            all = rw (← r.all, s, digit-ascii (get_or w i 0), d, add-one i);
+            value = rw (← r.value, s, add-one i);
+          }
 
     -- no byte is left
-    module _ (l : w.next ≤ i) where
-      value_read : value_from 0 (spelling text w) ≡ v
-      unfolding value_from spelling
-      value_read = rw (← r.value, part_none text i w.next l)
+    module _ (l : length w ≤ i) where
+      value_read : value_from 0 w ≡ v
+      unfolding value_from
+      value_read = rw (← r.value, drop_of_length-le w l)
 
-      digits_read : digits (spelling text w) ≡ true
-      unfolding digits spelling
-      digits_read = rw (← r.all, part_none text i w.next l)
+      digits_read : digits w ≡ true
+      unfolding digits
+      digits_read = rw (← r.all, drop_of_length-le w l)
 
-      pub number_large : 65536 ≤ v → 65536 ≡ number_or (spelling text w)
+      pub number-whole : {E : Type 0} (n : Result ℕ E) → OkIff n (v < 65536) v → (length w ≡ 0 → ⊥) → length w ≤ 5 → result_ok n ≡ spelled_number w
       unfolding is_number
-      number_large g = simp (value_read, le-ltb v 65536 g, and-false)
+      number-whole (Ok x) h e n =
+          rw (h.1, lt-ltb 0 (length w) (omega (arith, e)), lt-ltb (length w) 6 (omega arith), digits_read, value_read, lt-ltb v 65536 h.0)
+      number-whole (Err x) h e n = simp (value_read, le-ltb v 65536 (omega (arith, h)), and-false)
 
-      pub number-right : (w.next ≡ w.at → ⊥) → w.next - w.at ≤ 5 → v < 65536 → v ≡ number_or (spelling text w)
-      unfolding is_number
-      number-right e n g =
-          rw (
-            spelling-length text w h k,
-            lt-ltb 0 (w.next - w.at) (omega (arith, e)),
-            lt-ltb (w.next - w.at) 6 (omega arith),
-            digits_read,
-            value_read,
-            lt-ltb v 65536 g,
-          )
-
--- a layer: one or two digits behind `metal`
-digits-none : (l : List ℕ) → (length l ≡ 1 → ⊥) → (length l ≡ 2 → ⊥) → layer_digits l ≡ 0
+-- one or two digits of a layer
+pub layer-none : (l : List ℕ) → (length l ≡ 1 → ⊥) → (length l ≡ 2 → ⊥) → None ≡ layer_digits l
 unfolding layer_digits
-digits-none [] n m = refl
-digits-none (a ∷ []) n m = absurd (n refl)
-digits-none (a ∷ b ∷ []) n m = absurd (m refl)
-digits-none (a ∷ b ∷ c ∷ l) n m = refl
+layer-none [] n m = refl
+layer-none (a ∷ []) n m = absurd (n refl)
+layer-none (a ∷ b ∷ []) n m = absurd (m refl)
+layer-none (a ∷ b ∷ c ∷ l) n m = refl
 
-module _ (text : List ℕ) (w : Word) (h : w.at ≤ w.next) (k : w.next ≤ length text) where
-  pub layer-none : (w.next - w.at ≡ 6 → ⊥) → (w.next - w.at ≡ 7 → ⊥) → 0 ≡ layer_of (spelling text w)
-  unfolding layer_of
-  layer-none n m =
-      let e = length-drop 5 (spelling text w) in
-      let s = spelling-length text w h k in
-      rw (digits-none (drop 5 (spelling text w)) (λ y. n (omega arith)) (λ z. m (omega arith)))
-      (by (same (take 5 (spelling text w)) metal_word) (λ y. rw y) (λ z. rw z))
+pub layer-one : (l : List ℕ) → length l ≡ 1 → 49 ≤ get_or l 0 0 → get_or l 0 0 ≤ 57 → Some (get_or l 0 0 - 48) ≡ layer_digits l
+unfolding layer_digits
+layer-one [] e h k = absurd (omega arith)
+layer-one (a ∷ []) e h k = rw (lt-ltb 48 a (omega arith), lt-ltb a 58 (omega arith))
+layer-one (a ∷ b ∷ l) e h k = absurd (omega arith)
 
-  module _ (l : 5 < w.next - w.at) (t : Bool) (e : t ≡ same (spelling text (record { at = w.at; next = w.at + 5 })) metal_word) where
-    layer-parts : layer_of (spelling text w) ≡ cond t (layer_digits (get_or text (w.at + 5) 0 ∷ part text (w.at + 5 + 1) w.next)) 0
-    unfolding layer_of spelling
-    layer-parts =
-        let n : w.next - w.at ≡ 5 + (w.next - (w.at + 5)) = omega arith in
-        let m : w.at + 5 - w.at ≡ 5 = omega arith in
-        let f = length-take-le 5 (drop w.at text) (omega (arith, length-drop w.at text)) in
-        rw (
-          e,
-          ← part-cons text (w.at + 5) w.next (omega arith) k,
-          n,
-          m,
-          take-add 5 (w.next - (w.at + 5)) (drop w.at text),
-          take_at _ _ 5 f,
-          drop_at _ _ 5 f,
-          drop-drop 5 w.at text,
-        )
+pub layer-two : (l : List ℕ) → length l ≡ 2 → get_or l 0 0 ≡ 49 → 48 ≤ get_or l 1 0 → get_or l 1 0 ≤ 54 → Some (10 + (get_or l 1 0 - 48)) ≡ layer_digits l
+unfolding layer_digits digit
+layer-two [] e h k m = absurd (omega arith)
+layer-two (a ∷ []) e h k m = absurd (omega arith)
+layer-two (a ∷ b ∷ []) e h k m =
+    let n : b - 38 ≡ 10 + (b - 48) = omega arith in
+    rw (eq-eqb a 49 h, le-ltb b 48 k, lt-ltb b 58 (omega arith), lt-ltb b 55 (omega arith), n)
+layer-two (a ∷ b ∷ c ∷ l) e h k m = absurd (omega arith)
 
-    pub layer_other : t ≡ false → 0 ≡ layer_of (spelling text w)
-    layer_other z = rw (layer-parts, z)
+-- other bytes
+pub layer-one_other : (l : List ℕ) → length l ≡ 1 → (49 ≤ get_or l 0 0 → get_or l 0 0 ≤ 57 → ⊥) → None ≡ layer_digits l
+unfolding layer_digits
+layer-one_other [] e n = absurd (omega arith)
+layer-one_other (a ∷ []) e n =
+    let z : (ltb 48 a && ltb a 58) ≡ false = not_true_false _ (λ t. n (ltb-true 48 a (and_left (ltb 48 a) _ t)) (omega (arith, ltb-true a 58 (and_right (ltb 48 a) _ t)))) in
+    rw z
+layer-one_other (a ∷ b ∷ l) e n = absurd (omega arith)
 
-    module _ (y : t ≡ true) where
-      pub layer-one : w.next - w.at ≡ 6 → layer_digits (get_or text (w.at + 5) 0 ∷ []) ≡ layer_of (spelling text w)
-      layer-one n = rw (layer-parts, y, part_none text (w.at + 5 + 1) w.next (omega arith))
-
-      pub layer-two : w.next - w.at ≡ 7 → layer_digits (get_or text (w.at + 5) 0 ∷ get_or text (w.at + 5 + 1) 0 ∷ []) ≡ layer_of (spelling text w)
-      layer-two n =
-          rw (
-            layer-parts,
-            y,
-            part-cons text (w.at + 5 + 1) w.next (omega arith) k,
-            part_none text (w.at + 5 + 1 + 1) w.next (omega arith),
-          )
+pub layer-two_other : (l : List ℕ) → length l ≡ 2 → (get_or l 0 0 ≡ 49 → 48 ≤ get_or l 1 0 → get_or l 1 0 ≤ 54 → ⊥) → None ≡ layer_digits l
+unfolding layer_digits digit
+layer-two_other [] e n = absurd (omega arith)
+layer-two_other (a ∷ []) e n = absurd (omega arith)
+layer-two_other (a ∷ b ∷ []) e n =
+    let d = not (ltb b 48) && ltb b 58 in
+    let z : (eqb a 49 && (d && ltb b 55)) ≡ false = not_true_false _
+    (λ t.
+    let u = and_right (eqb a 49) _ t in
+    n (eqb-true a 49 (and_left (eqb a 49) _ t)) (ltb-false b 48 (not-true (ltb b 48) (and_left (not (ltb b 48)) _ (and_left d _ u))))
+    (omega (arith, ltb-true b 55 (and_right d _ u))))
+    in
+    rw z
+layer-two_other (a ∷ b ∷ c ∷ l) e n = absurd (omega arith)

@@ -1,39 +1,37 @@
 -- The words of a DEF text: where they stand, and what they spell. Document 02, routes from DEF.
 -- Assumes nothing.
-use Rattle.std.specs.Prelude.{ℕ, suc, ◌+◌, ◌-◌, ◌*◌, Bool, true, false, not, ◌&&◌, ◌||◌, cond, List, [], ◌∷◌, eqb, ltb, length, take, drop}
-use Rattle.words.specs.declared.Word.{Word}
+use Rattle.std.specs.Prelude.{ℕ, ◌+◌, ◌-◌, ◌*◌, Bool, true, not, ◌&&◌, ◌||◌, cond, List, [], ◌∷◌, Option, Some, None, eqb, ltb, length, take, drop}
+use Rattle.std.specs.List.{prefix_len}
+use Rattle.std.specs.Str.{bytes_eq}
 
 -- words are parted by bytes 9, 10, 13 or 32
 unfoldable pub blank : ℕ → Bool
 blank b = eqb b 9 || (eqb b 10 || (eqb b 13 || eqb b 32))
 
--- how many elements at the front of a list pass a test
-unfoldable pub leading : (ℕ → Bool) → List ℕ → ℕ
-leading test [] = 0
-leading test (b ∷ l) = cond (test b) (suc (leading test l)) 0
+-- where a word stands: its first byte, and the place after it
+pub record Span : Type 0 where
+  pub at : ℕ
+  pub next : ℕ
 
 -- the first byte of the first word from a place on; where no word is left, the text's length
 unfoldable pub word_start : List ℕ → ℕ → ℕ
-word_start text place = place + leading blank (drop place text)
+word_start text place = place + prefix_len blank (drop place text)
 
 -- the place after the word that begins at a place
 unfoldable pub word_end : List ℕ → ℕ → ℕ
-word_end text at = at + leading (λ b. not (blank b)) (drop at text)
+word_end text at = at + prefix_len (λ b. not (blank b)) (drop at text)
 
 -- the first word from a place on: its first byte and the place after it
-abbrev pub word_from : List ℕ → ℕ → Word
+abbrev pub word_from : List ℕ → ℕ → Span
 word_from text place = record { at = word_start text place; next = word_end text (word_start text place) }
 
 -- its bytes; none where no word is left
-unfoldable pub spelling : List ℕ → Word → List ℕ
+unfoldable pub spelling : List ℕ → Span → List ℕ
 spelling text w = take (w.next - w.at) (drop w.at text)
 
 -- two words are the same
-unfoldable pub same : List ℕ → List ℕ → Bool
-same [] [] = true
-same [] (b ∷ m) = false
-same (a ∷ l) [] = false
-same (a ∷ l) (b ∷ m) = eqb a b && same l m
+abbrev pub same : List ℕ → List ℕ → Bool
+same = bytes_eq
 
 -- `+`, `ROUTED`, `NEW`, `(`, `)`, `*`, `;`, `metal`
 abbrev pub plus_word : List ℕ
@@ -81,12 +79,15 @@ is_number w = ltb 0 (length w) && (ltb (length w) 6 && (digits w && ltb (value_f
 abbrev pub number_of : List ℕ → ℕ
 number_of w = value_from 0 w
 
--- `metal1` to `metal16`: the layer; 0 for any other word
-unfoldable pub layer_digits : List ℕ → ℕ
-layer_digits [] = 0
-layer_digits (a ∷ []) = cond (ltb 48 a && ltb a 58) (a - 48) 0
-layer_digits (a ∷ b ∷ []) = cond (eqb a 49 && (digit b && ltb b 55)) (b - 38) 0
-layer_digits (a ∷ b ∷ c ∷ l) = 0
+abbrev pub spelled_number : List ℕ → Option ℕ
+spelled_number w = cond (is_number w) (Some (number_of w)) None
 
-unfoldable pub layer_of : List ℕ → ℕ
-layer_of w = cond (same (take 5 w) metal_word) (layer_digits (drop 5 w)) 0
+-- `metal1` to `metal16`: the layer
+unfoldable pub layer_digits : List ℕ → Option ℕ
+layer_digits [] = None
+layer_digits (a ∷ []) = cond (ltb 48 a && ltb a 58) (Some (a - 48)) None
+layer_digits (a ∷ b ∷ []) = cond (eqb a 49 && (digit b && ltb b 55)) (Some (b - 38)) None
+layer_digits (a ∷ b ∷ c ∷ l) = None
+
+unfoldable pub layer_of : List ℕ → Option ℕ
+layer_of w = cond (same (take 5 w) metal_word) (layer_digits (drop 5 w)) None

@@ -1,31 +1,17 @@
-use Rattle.std.proofs.Common.{ℕ, ◌+◌, ◌*◌, ◌/◌, sym, subst, arith}
+use Rattle.std.proofs.Common.{◌*◌, ◌/◌, length, take, drop, rules, subst}
 use Rattle.std.specs.Io.KnownBytes.{Appends}
-use Rattle.std.proofs.KnownBytes.{Appends-nil}
-use Rattle.laws.specs.Gather.{gather}
+use Rattle.std.proofs.lemmas.Result.{IfOk-weaker}
+use Rattle.laws.specs.Gathers.{gather_ap}
+use Rattle.net.specs.Layout.{record_bytes}
 use Rattle.console.specs.Lines.{record_line}
-use Rattle.console.proofs.Printed.{one_more}
+use Rattle.console.proofs.Printed.{record_there}
 use Rattle.console.proofs.print_records.Goals as goal
 
-pub loop-at-init : goal.loop-at-init
-unfolding gather
-loop-at-init g c = record {
-  within = omega arith;
-  whole = omega arith;
-  printed = Appends-nil _;
-}
-
-pub loop-at-preserved : goal.loop-at-preserved
-loop-at-preserved g c =
-    let contents = g.W.Write.contents in
-    let records = c.args.records.now in
-    let at = c.loop-at.at in
-    let a = contents c.args.to.now in
-    let b = contents c.loop-at.to in
-    let d = contents c.print_record.new.to in
-    let P : ℕ → Type 0 = λ x. Appends b d (record_line records x) in
-    record {
-      within = omega arith;
-      whole = omega arith;
-      printed = one_more (λ k. record_line records (12 * k)) ((at + 12) / 12) (at / 12) a b d (omega arith) c.loop-at.invariant.printed
-          (subst P (sym c.loop-at.invariant.whole) c.in_ok-print_record.ensures);
-    }
+pub returns : goal.returns
+returns g c =
+    let l = c.args.records.now in
+    IfOk-weaker c.print_lines.result _ _
+    (λ _ p.
+    subst (Appends (g.W.Write.contents c.args.to.now) (g.W.Write.contents c.print_lines.new.to))
+    (gather_ap (length l / record_bytes) {f = λ k. record_line (take record_bytes (drop (record_bytes * k) l)) 0} {g = λ k. record_line l (record_bytes * k)} (λ k h. record_there l (record_bytes * k))) p)
+    (c.print_lines.ensures (λ chunk. record_line chunk 0) (λ t chunk r u said. search rules))

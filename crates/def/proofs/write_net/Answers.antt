@@ -2,13 +2,13 @@
 -- Assumes nothing.
 use Rattle.laws.specs.Written.{written_taken}
 use Rattle.def.specs.WrittenLaws.{length-nodes, length-wires}
-use Prim.Native.Nat.{◌-◌}
 use Rattle.def.proofs.write_net.Goals as goal
 
 -- the parts that are handed on are the sections
 pub returns : goal.returns
 returns c =
     rw (
-      written_taken _ _ _ _ c.write_nodes.ensures (length-nodes c.args.nodes.now c.args.flags.now c.args.count),
-      written_taken _ _ _ _ c.write_wires.ensures (length-wires c.args.nodes.now (c.args.count - 1)),
-    ) at c.write_sections.ensures
+      c.from.ensures,
+      written_taken _ _ _ _ c.write_nodes.ensures (length-nodes c.args.nodes.now c.args.flags.now),
+      written_taken _ _ _ _ c.write_wires.ensures (length-wires c.args.nodes.now),
+    ) at c.write.ensures

@@ -1,6 +1,6 @@
 -- `points::highest_free` meets its contract. Assumes nothing.
 use Rattle.std.proofs.Common.{ℕ, ◌<◌, ◌≤◌, ◌≡◌, true, arith}
-use Rattle.points.specs.Lines.{barred_at, leap_down}
+use Rattle.points.specs.Lines.{barred_at, reaches_less, leap_down}
 use Rattle.points.proofs.highest_free.Goals as goal
 
 leap : (c : goal.After-last_below-t) →
@@ -10,6 +10,9 @@ leap c =
     c.loop-t-test.true
     c.last_below-t.ensures
     c.loop-t.invariant.1
+
+pub at-requires : goal.at-requires
+at-requires c = reaches_less c.requires (omega arith)
 
 pub loop-t-smaller : goal.loop-t-smaller
 loop-t-smaller c = (leap c).0

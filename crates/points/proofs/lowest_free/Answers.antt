@@ -1,6 +1,6 @@
 -- `points::lowest_free` meets its contract. Assumes nothing.
 use Rattle.std.proofs.Common.{ℕ, ◌<◌, ◌≤◌, ◌≡◌, true, arith}
-use Rattle.points.specs.Lines.{barred_at, leap_up}
+use Rattle.points.specs.Lines.{barred_at, reaches_less, leap_up}
 use Rattle.points.proofs.lowest_free.Goals as goal
 
 leap : (c : goal.After-first_above-t) →
@@ -10,6 +10,9 @@ leap c =
     c.loop-t-test.true
     c.first_above-t.ensures
     c.loop-t.invariant.1
+
+pub at-requires : goal.at-requires
+at-requires c = reaches_less c.requires.0 (omega arith)
 
 pub loop-t-smaller : goal.loop-t-smaller
 loop-t-smaller c = omega (arith, (leap c).0)

@@ -2,31 +2,31 @@
 -- Assumes nothing.
 use mathlib.Core.Path.{◌≡◌, refl, ◌∙◌, ap}
 use native.Mathlib.Omega.{arith}
-use lib.ListN.{get_or}
+use lib.ListN.{length, get_or}
 use Rattle.laws.specs.Lists.{over}
 use Rattle.laws.specs.Gather.{gather}
 use Rattle.laws.specs.Written.{written_next}
 use Rattle.net.specs.Layout.{node_bytes}
 use borrow.Author.Rules.{rules}
-use Rattle.def.specs.Written.{entry_node, table_nodes}
+use Rattle.routes.specs.Nodes.{node_at}
+use Rattle.def.specs.Written.{flagged_node}
 use Rattle.def.proofs.sections.write_nodes.Goals as goal
 
 pub loop-i-init : goal.loop-i-init
 unfolding gather
-loop-i-init c = (omega arith, refl, refl)
+loop-i-init c = (refl, refl)
 
 pub loop-i-preserved : goal.loop-i-preserved
 loop-i-preserved c =
     let l = c.loop-i in
     let a = c.args in (
-      omega arith,
       search rules,
-      written_next node_bytes (λ j. entry_node (get_or a.nodes.now j 0) (get_or a.flags.now j 0)) (λ j. refl) l.i _ a.out.now _ _ refl (omega arith) l.invariant.2 c.write_node.ensures,
+      written_next node_bytes (λ j. flagged_node (node_at a.nodes.now j) (get_or a.flags.now j 0)) (λ j. refl) l.i _ a.out.now _ _ refl (omega arith) l.invariant.1 c.write_node.ensures,
     )
 
 pub returns : goal.returns
 returns c =
     let a = c.args in
     let l = c.loop-i in
-    let e : l.i ≡ a.count = omega arith in
-    l.invariant.2 ∙ ap (λ n. over (table_nodes a.nodes.now a.flags.now n) a.out.now) e
+    let e : l.i ≡ length a.nodes.now = omega arith in
+    l.invariant.1 ∙ ap (λ n. over (gather n (λ j. flagged_node (node_at a.nodes.now j) (get_or a.flags.now j 0))) a.out.now) e

@@ -3,7 +3,8 @@
 use Prim.Native.Nat.{ℕ, ◌≤◌, ◌<◌}
 use mathlib.Core.Path.{sym, ◌∙◌}
 use mathlib.Core.List.{List}
-use native.Mathlib.Omega.{arith}
+use Rattle.std.proofs.Common.{arith}
+use Rattle.std.proofs.lemmas.Bool.Decides.{nat_tests}
 use lib.ListN.{length}
 use Rattle.laws.specs.Numbers.{Bytes}
 use Rattle.net.specs.Net.{node_count}
@@ -38,7 +39,7 @@ start_piece-requires c =
     let h = r.i_bound.0 in (
       node-small a.nodes.now a.wires.now a.jumpers.now a.stage r.list_accepted a.i h,
       omega (arith, h, r.nodes_in_bounds.0),
-      omega (arith, c.node_flags.ensures, r.list_accepted.2.right.flags a.i h),
+      omega (arith, c.node_at.ensures.flags, r.list_accepted.2.right.flags a.i h),
       absent-room here (sym c.is_present.ensures ∙ c.if-not-is_present.true),
     )
 
@@ -51,7 +52,7 @@ returns-then-not-is_present c =
     r.i_bound.0 r.nodes_in_bounds.0 r.nodes_in_bounds.1 r.held_below (λ n. omega (arith, c.type_inv.nodes n)) (λ n. omega (arith, c.type_inv.wires n)) in
     let e = c.start_piece.ensures in
     taken_wire r.list_accepted
-    (λ v os j. taken_absent (all v os j) (sym c.is_present.ensures ∙ c.if-not-is_present.true) c.node_flags.result c.start_piece.result c.node_flags.ensures e.0 e.1 e.2)
+    (λ v os j. taken_absent (all v os j) (sym c.is_present.ensures ∙ c.if-not-is_present.true) c.node_at.result.flags c.start_piece.result c.node_at.ensures.flags e.0 e.1 e.2)
 
 pub join_wire-requires : goal.join_wire-requires
 join_wire-requires c =
@@ -62,8 +63,8 @@ join_wire-requires c =
     r.i_bound.0 r.nodes_in_bounds.0 r.nodes_in_bounds.1 r.held_below (λ n. omega (arith, c.type_inv.nodes n)) (λ n. omega (arith, c.type_inv.wires n)) r.list_accepted in
     taken_ready here (sym c.is_present.ensures ∙ c.if-not-is_present.false)
 
-pub returns-then-e-end : goal.returns-then-e-end
-returns-then-e-end c =
+pub returns-then-is_empty : goal.returns-then-is_empty
+returns-then-is_empty c =
     let a = c.args in
     let r = c.requires in
     let all =
@@ -71,7 +72,7 @@ returns-then-e-end c =
     r.i_bound.0 r.nodes_in_bounds.0 r.nodes_in_bounds.1 r.held_below (λ n. omega (arith, c.type_inv.nodes n)) (λ n. omega (arith, c.type_inv.wires n)) in
     let e = c.join_wire.ensures in
     taken_wire r.list_accepted
-    (λ v os j. taken_joined (all v os j) (sym c.is_present.ensures ∙ c.if-not-is_present.false) a.e a.end r.i_bound.1 c.if-e-end.true e.0 e.1)
+    (λ v os j. taken_joined (all v os j) (sym c.is_present.ensures ∙ c.if-not-is_present.false) a.entries.start a.entries.end r.i_bound.1 (grind (arith, nat_tests, r.i_bound.1.ordered, c.if-is_empty.ensures)) e.0 e.1)
 
 pub part_wire-requires : goal.part_wire-requires
 part_wire-requires c =
@@ -81,11 +82,11 @@ part_wire-requires c =
     ready_here a.nodes.now a.wires.now a.jumpers.now a.stage a.limit a.i a.places.now a.at a.out.now
     r.i_bound.0 r.nodes_in_bounds.0 r.nodes_in_bounds.1 r.held_below (λ n. omega (arith, c.type_inv.nodes n)) (λ n. omega (arith, c.type_inv.wires n)) r.list_accepted in
     let o = r.i_bound.1 in
-    let some : c.args.e < c.args.end = omega (arith, o.ordered, c.if-e-end.false) in
+    let some : c.args.entries.start < c.args.entries.end = grind (arith, nat_tests, c.if-is_empty.ensures) in
     record {
       wire_ready = taken_ready here (sym c.is_present.ensures ∙ c.if-not-is_present.false);
-      entries_ready = entries_ready a.nodes.now a.wires.now a.jumpers.now a.stage r.list_accepted a.i r.i_bound.0 a.e a.end o some;
-      e_in_bounds = cut-room here (sym c.is_present.ensures ∙ c.if-not-is_present.false) a.e a.end o some;
+      entries_ready = entries_ready a.nodes.now a.wires.now a.jumpers.now a.stage r.list_accepted a.i r.i_bound.0 a.entries.start a.entries.end o some;
+      room = cut-room here (sym c.is_present.ensures ∙ c.if-not-is_present.false) a.entries.start a.entries.end o some;
     }
 
 pub returns : goal.returns
@@ -96,6 +97,6 @@ returns c =
     ready a.nodes.now a.wires.now a.jumpers.now a.stage a.limit a.i a.places.now a.at a.out.now
     r.i_bound.0 r.nodes_in_bounds.0 r.nodes_in_bounds.1 r.held_below (λ n. omega (arith, c.type_inv.nodes n)) (λ n. omega (arith, c.type_inv.wires n)) in
     let e = c.part_wire.ensures in
-    let some : c.args.e < c.args.end = omega (arith, r.i_bound.1.ordered, c.if-e-end.false) in
+    let some : c.args.entries.start < c.args.entries.end = grind (arith, nat_tests, c.if-is_empty.ensures) in
     taken_wire r.list_accepted
-    (λ v os j. taken_cut (all v os j) (sym c.is_present.ensures ∙ c.if-not-is_present.false) a.e a.end r.i_bound.1 some c.part_wire.result e.0 e.1 e.2)
+    (λ v os j. taken_cut (all v os j) (sym c.is_present.ensures ∙ c.if-not-is_present.false) a.entries.start a.entries.end r.i_bound.1 some c.part_wire.result e.0 e.1 e.2)

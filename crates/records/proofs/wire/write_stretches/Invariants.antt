@@ -1,8 +1,6 @@
 -- `records::wire::write_stretches` meets its contract.
 -- Assumes nothing.
-use Prim.Native.Nat.{◌+◌, ◌-◌, ◌*◌, ◌≤◌}
-use mathlib.Core.Path.{◌≡◌}
-use lib.ListN.{length}
+use Rattle.std.proofs.Common.{◌≡◌, ◌+◌, ◌-◌, ◌*◌, ◌≤◌, length}
 use Rattle.laws.specs.Place.{place}
 use Rattle.net.specs.Layout.{record_bytes}
 use Rattle.records.specs.Record.{stretches_fields}
@@ -10,8 +8,10 @@ use Rattle.records.proofs.wire.write_stretches.Given as goal
 
 abbrev pub invariant-loop-d : goal.invariant-loop-d
 invariant-loop-d l =
-    (l.e ≤ l.d) × (l.d - l.e ≤ l.end - l.e - 1) × (l.next ≡ l.at + record_bytes * (l.d - l.e))
-    × (l.out ≡ place l.at (stretches_fields l.jumpers l.i l.factor l.layer l.e (l.d - l.e)) l.initial.out) × (length l.out ≡ length l.initial.out)
-
-abbrev pub decreases-loop-d : goal.decreases-loop-d
-decreases-loop-d l = l.end - l.d
+    let e = l.fn.entries.start in
+    record {
+      inside : l.d - e - 1 ≤ l.d-end - e - 1;
+      next : l.next ≡ l.at + record_bytes * (l.d - e - 1);
+      written : l.out ≡ place l.at (stretches_fields l.jumpers l.i l.wire.factor l.wire.layer e (l.d - e - 1)) l.initial.out;
+      long : length l.out ≡ length l.initial.out;
+    }

@@ -1,18 +1,16 @@
 -- `reports::gather::gather_wire` meets its contract.
 -- Assumes nothing.
-use Prim.Native.Nat.{ℕ, ◌+◌, ◌-◌, ◌*◌, ◌<◌}
-use mathlib.Core.Path.{◌≡◌, sym, ◌∙◌}
-use mathlib.Core.List.{List}
-use native.Mathlib.Omega.{arith}
+use Rattle.std.proofs.Common.{ℕ, ◌+◌, ◌-◌, ◌*◌, ◌≡◌, ◌<◌, sym, ◌∙◌, List, arith}
 use Rattle.net.specs.Limits.{wire_weight_bound}
+use Rattle.reports.specs.declared.gather.Piece.{Piece}
+use Rattle.reports.specs.Gathered.{weight}
 use Rattle.reports.specs.Gathering.{Parted}
 use Rattle.records.specs.ListRights.{entry-inside, stored_of}
 use Rattle.reports.specs.ListRights.{step-absent, step-joined, step_cut, wire_ready, at_more}
 use Rattle.records.specs.Reached.{reached_wire, reached_next}
 use Rattle.reports.proofs.gather.gather_wire.Goals as goal
 
-parted-at : {ns ws : List ℕ} {i first last a b : ℕ} {lo w f l lo' w' f' l' : List ℕ} → first ≡ a → last ≡ b →
-    Parted ns ws i first last lo w f l lo' w' f' l' → Parted ns ws i a b lo w f l lo' w' f' l'
+parted-at : {ns ws : List ℕ} {i first last a b : ℕ} {p q : List Piece} → first ≡ a → last ≡ b → Parted ns ws i first last p q → Parted ns ws i a b p q
 parted-at e d p = rw (e, d) at p
 
 pub entries_end-end-requires : goal.entries_end-end-requires
@@ -24,16 +22,16 @@ is_present-requires c =
 
 pub returns-then-not-is_present : goal.returns-then-not-is_present
 returns-then-not-is_present c =
-    let flags = c.node_flags in
+    let node = c.node_at in
     let a = c.args in
     let n = c.entries_end-end.ensures in
     let w = reached_wire a.nodes.now a.wires.now a.jumpers.now a.stage c.requires.list_accepted a.i a.e c.entries_end-end.result c.requires.i_bound.1 n.0 n.1 n.2 n.3 in
     let absent = sym c.is_present.ensures ∙ c.if-not-is_present.true in (
       reached_next a.nodes.now a.wires.now a.jumpers.now a.stage c.requires.list_accepted a.i a.e c.entries_end-end.result w,
-      at_more (a.i * (2 * wire_weight_bound)) ((a.i + 1) * (2 * wire_weight_bound)) a.weight.now (omega arith) c.requires.roomy.1,
+      rw c.name_node.ensures.kept.0 (at_more (a.i * (2 * wire_weight_bound)) ((a.i + 1) * (2 * wire_weight_bound)) (weight a.pieces.now) (omega arith) c.requires.roomy.1),
       λ v os j.
           step-absent v a.nodes.now a.wires.now a.jumpers.now os a.stage j a.i c.requires.i_bound.0 (c.requires.gathered_below v os j)
-          flags.result flags.ensures absent c.name_node.ensures,
+          node.result.flags node.ensures.flags absent c.name_node.ensures.named c.name_node.ensures.kept.0 c.name_node.ensures.kept.1,
     )
 
 pub join_wire-requires : goal.join_wire-requires

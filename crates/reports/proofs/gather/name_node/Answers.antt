@@ -1,16 +1,13 @@
 -- `reports::gather::name_node` meets its contract.
 -- Assumes nothing.
-use native.Mathlib.Omega.{arith}
-use lib.Seq.{get_or-set_same, get_or-set_other}
-use Rattle.reports.specs.Gathering.{set-or}
+use Rattle.std.proofs.Common.{refl, ◌∙◌}
+use Rattle.reports.specs.Gathering.{named-entries, same-weight, same-layers}
 use Rattle.reports.proofs.gather.name_node.Goals as goal
 
-pub returns : goal.returns
-returns c =
+pub returns-clause-named : goal.returns-clause-named
+returns-clause-named c = let a = c.args in named-entries a.pieces.now a.i a.h a.of_node _ _ c.requires.0 c.requires.1 refl refl refl refl
+
+pub returns-clause-kept : goal.returns-clause-kept
+returns-clause-kept c =
     let a = c.args in
-    let p = c.requires in
-    record {
-      names = λ j l. get_or-set_other a.lowest.now a.i j a.h 0 (λ e. omega arith);
-      here = get_or-set_same a.lowest.now a.i a.h 0 p.0;
-      flagged = set-or a.flags.now a.h a.of_node p.1;
-    }
+    (same-weight _ a.h _ refl ∙ same-weight a.pieces.now a.i _ refl, same-layers _ a.h _ refl ∙ same-layers a.pieces.now a.i _ refl)

@@ -1,40 +1,41 @@
 -- `reports::write::write_node` meets its contract.
 -- Assumes nothing.
-use Prim.Native.Nat.{◌-◌}
-use mathlib.Core.Path.{sym}
+use Rattle.std.proofs.Common.{◌-◌, sym, length, get_or, arith}
 use native.Mathlib.Nat.{add-zero}
-use native.Mathlib.Omega.{arith}
-use lib.ListN.{length, get_or}
-use Rattle.laws.specs.Place.{place_none}
+use Rattle.laws.specs.Place.{place_none, part-long}
 use Rattle.net.specs.Layout.{record_bytes}
 use Rattle.records.specs.Record.{with_harm}
-use Rattle.reports.specs.Writing.{node_fields_no, node_fields_yes}
-use Rattle.laws.specs.Place.{part-long}
 use Rattle.records.specs.RecordBytes.{placed_record, fields-length}
+use Rattle.reports.specs.Gathering.{nothing, fields-at}
+use Rattle.reports.specs.Writing.{node_fields_no, node_fields_yes}
 use Rattle.reports.proofs.write.write_node.Goals as goal
 
-pub returns-then-lowest-i : goal.returns-then-lowest-i
-returns-then-lowest-i c =
+pub returns-then-piece-i : goal.returns-then-piece-i
+returns-then-piece-i c =
     let a = c.args in
-    let e = node_fields_no a.limit a.lowest.now a.weight.now a.flags.now a.layers.now a.i c.if-lowest-i.true in
+    let e = node_fields_no a.limit a.pieces.now a.i c.if-piece-i.true in
     (rw e (sym (add-zero a.at)), rw e (place_none a.at a.out.now))
 
-pub write_record-requires : goal.write_record-requires
-write_record-requires c =
+pub of_piece-requires : goal.of_piece-requires
+of_piece-requires c = let at = fields-at c.args.pieces.now c.args.i in (c.requires.i_lt_most_nodes.0, omega (arith, at.2))
+
+pub write-requires : goal.write-requires
+write-requires c =
     let a = c.args in
-    let e = node_fields_yes a.limit a.lowest.now a.weight.now a.flags.now a.layers.now a.i c.if-lowest-i.false in
-    let n = fields-length a.i 0 (get_or a.weight.now a.i 0) (with_harm a.limit (get_or a.weight.now a.i 0) (get_or a.flags.now a.i 0)) (get_or a.layers.now a.i 0) in
+    let p = get_or a.pieces.now a.i nothing in
+    let e = node_fields_yes a.limit a.pieces.now a.i c.if-piece-i.false in
+    let n = fields-length a.i 0 p.weight (with_harm a.limit p.weight p.flags) p.layers in
     part-long a.at record_bytes a.out.now (rw (e, n) at c.requires.i_in_bounds)
 
 pub returns : goal.returns
 returns c =
     let a = c.args in
-    let w = get_or a.weight.now a.i 0 in
-    let f = with_harm a.limit w (get_or a.flags.now a.i 0) in
-    let l = get_or a.layers.now a.i 0 in
-    let e = node_fields_yes a.limit a.lowest.now a.weight.now a.flags.now a.layers.now a.i c.if-lowest-i.false in (
-      rw (e, fields-length a.i 0 w f l),
+    let p = get_or a.pieces.now a.i nothing in
+    let f = with_harm a.limit p.weight p.flags in
+    let e = node_fields_yes a.limit a.pieces.now a.i c.if-piece-i.false in
+    let r = c.of_piece.ensures in (
+      rw (e, fields-length a.i 0 p.weight f p.layers),
       rw e
-          (placed_record a.at (length a.out.now - a.at) a.out.now c.write_record.new.rest a.i 0 w f l (omega arith)
-          (rw (← c.with_harm-flagged.ensures) c.write_record.ensures)),
+          (placed_record a.at (length a.out.now - a.at) a.out.now c.write.new.rest a.i 0 p.weight f p.layers (omega arith)
+          (rw (r.0, r.1, r.2, r.3, r.4) at c.write.ensures)),
     )

@@ -15,14 +15,11 @@ pub returns-then-not-is_present : goal.returns-then-not-is_present
 returns-then-not-is_present c =
     let a = c.args in
     let l = c.requires.wire_entries.absent (sym c.is_present.ensures ∙ c.if-not-is_present.true) in
-    let z : a.end - a.e - 1 ≡ 0 = omega arith in
-    (omega arith, rw (z, stretches-none a.jumpers.now a.i (wire_factor a.wires.now a.i) (wire_layer a.wires.now a.i) a.e) (place_none {A = ℕ} a.at a.out.now))
+    let z : a.entries.end - a.entries.start - 1 ≡ 0 = omega arith in
+    (omega arith, rw (z, stretches-none a.jumpers.now a.i (wire_factor a.wires.now a.i) (wire_layer a.wires.now a.i) a.entries.start) (place_none {A = ℕ} a.at a.out.now))
 
-pub wire_factor-requires : goal.wire_factor-requires
-wire_factor-requires c = let a = c.args in (ltb-true 0 a.i (and_left (ltb 0 a.i) (leb (wire_layer a.wires.now a.i) a.stage) (sym c.is_present.ensures ∙ c.if-not-is_present.false)), c.requires.wire_entries.stored)
-
-pub wire_layer-requires : goal.wire_layer-requires
-wire_layer-requires c = let a = c.args in (ltb-true 0 a.i (and_left (ltb 0 a.i) (leb (wire_layer a.wires.now a.i) a.stage) (sym c.is_present.ensures ∙ c.if-not-is_present.false)), c.requires.wire_entries.stored)
+pub wire_at-requires : goal.wire_at-requires
+wire_at-requires c = let a = c.args in (ltb-true 0 a.i (and_left (ltb 0 a.i) (leb (wire_layer a.wires.now a.i) a.stage) (sym c.is_present.ensures ∙ c.if-not-is_present.false)), c.requires.wire_entries.stored)
 
 pub write_stretches-requires : goal.write_stretches-requires
 write_stretches-requires c =
@@ -30,10 +27,10 @@ write_stretches-requires c =
     let p = c.requires.wire_entries in
     let n = ltb-true 0 a.i (and_left (ltb 0 a.i) (leb (wire_layer a.wires.now a.i) a.stage) (sym c.is_present.ensures ∙ c.if-not-is_present.false)) in
     record {
-      i_lt_most_nodes = (p.small, p.ordered, p.inside, omega (arith, p.low n, c.wire_layer.ensures), omega (arith, p.high n, c.wire_layer.ensures));
+      i_lt_most_nodes = (p.small, p.ordered, p.inside, omega (arith, p.low n, c.wire_at.ensures.layer), omega (arith, p.high n, c.wire_at.ensures.layer));
       by_index = p.rise;
-      e_in_bounds = c.requires.e_in_bounds;
+      room = c.requires.room;
     }
 
 pub returns : goal.returns
-returns c = (c.write_stretches.ensures.0, rw (c.wire_factor.ensures, c.wire_layer.ensures) at c.write_stretches.ensures.1)
+returns c = (c.write_stretches.ensures.0, rw (c.wire_at.ensures.factor, c.wire_at.ensures.layer) at c.write_stretches.ensures.1)

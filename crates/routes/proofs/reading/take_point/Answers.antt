@@ -1,34 +1,52 @@
--- `routes::reading::take_point` meets its contract. Assumes nothing.
+-- `routes::reading::take_point` meets its contract.
+-- Assumes nothing.
 use native.Mathlib.Omega.{arith}
-use Rattle.routes.specs.Taking.{near, took_again, took_refused, took_known, took_past, took_stored, parent-fits}
+use Prim.Native.Nat.{◌<◌, ◌≤◌}
+use lib.ListN.{length, take}
+use Rattle.std.proofs.Math.Seq.{length-take-le}
+use mathlib.Core.Path.{◌≡◌, ◌∙◌, sym}
+use Rattle.routes.specs.Taking.{again, took_far, took_far_refused, took_refused, took_known, took_past, took_stored, count_most, parent-within}
 use Rattle.routes.proofs.reading.take_point.Goals as goal
 
-pub returns-then-count-gt-MOST_NODES : goal.returns-then-count-gt-MOST_NODES
-returns-then-count-gt-MOST_NODES c rest r = took_again _ _ r (omega (arith, c.well_formed)) c.if-count-gt-MOST_NODES.true c.is_refused.ensures
+pub returns-then-is_refused : goal.returns-then-is_refused
+returns-then-is_refused c rest r = took_far_refused r c.in_default.is (c.is_refused.ensures ∙ again _ _ r c.in_default.is) c.if-is_refused.true
 
-pub returns-then-at : goal.returns-then-at
-returns-then-at c rest r =
-    let e = c.place_point-at.ensures r.nodes (near r c.if-count-gt-MOST_NODES.false) r.holds in
-    took_refused r (rw e at c.if-at.true)
+pub returns-in_default : goal.returns-in_default
+returns-in_default c rest r = took_far r c.in_default.is (c.is_refused.ensures ∙ again _ _ r c.in_default.is) c.if-is_refused.false (omega (arith, c.well_formed))
 
-pub returns-then-at-2 : goal.returns-then-at-2
-returns-then-at-2 c rest r =
-    let e = c.place_point-at.ensures r.nodes (near r c.if-count-gt-MOST_NODES.false) r.holds in
-    rw e (took_known r (omega (arith, c.well_formed)) (rw e at c.if-at.false) (rw e at c.if-at-2.true))
+pub slice_bounds-place_point-end : goal.slice_bounds-place_point-end
+slice_bounds-place_point-end c = let m = count_most c.requires.1.1 c.in-Some.is in let k : c.in-Some.f.count ≤ length c.args.nodes.now = omega (arith, c.requires.0) in k
+
+pub slice_bounds-place_point-end-2 : goal.slice_bounds-place_point-end-2
+slice_bounds-place_point-end-2 c =
+    let n = c.in-Some.f.count in
+    let m = count_most c.requires.1.1 c.in-Some.is in
+    let k : n ≡ length (take n c.args.nodes.now) = sym (length-take-le n c.args.nodes.now (omega (arith, c.requires.0))) in
+    k
+
+pub bounds-nodes-count : goal.bounds-nodes-count
+bounds-nodes-count c = let m = count_most c.requires.1.1 c.in-Some.is in let k : c.in-Some.f.count < length c.args.nodes.now = omega (arith, c.requires.0, c.if-count-eq-MOST_NODES.false) in k
+
+pub offset_bounds-nodes-count : goal.offset_bounds-nodes-count
+offset_bounds-nodes-count c = let m = count_most c.requires.1.1 c.in-Some.is in record { fits = omega arith }
+
+pub returns-in-Refused : goal.returns-in-Refused
+returns-in-Refused c rest r = took_refused r c.in-Some.is c.requires.0 c.place_point.ensures c.in-Refused.is
+
+pub returns-in-Known : goal.returns-in-Known
+returns-in-Known c rest r = took_known r c.in-Some.is c.requires.0 c.place_point.ensures (omega (arith, c.well_formed)) c.in-Known.is
 
 pub returns-then-count-eq-MOST_NODES : goal.returns-then-count-eq-MOST_NODES
 returns-then-count-eq-MOST_NODES c rest r =
-    let e = c.place_point-at.ensures r.nodes (near r c.if-count-gt-MOST_NODES.false) r.holds in
-    rw e (took_past r (omega (arith, c.well_formed)) (rw e at c.if-at.false) (rw e at c.if-at-2.false) c.if-count-eq-MOST_NODES.true)
+    took_past r c.in-Some.is c.requires.0 c.place_point.ensures (omega (arith, c.well_formed)) c.in-New.is c.if-count-eq-MOST_NODES.true
 
-pub pack-requires : goal.pack-requires
-pack-requires c =
-    let r = c.requires.1.1 in
-    let e = c.place_point-at.ensures r.nodes (near r c.if-count-gt-MOST_NODES.false) r.holds in
-    rw e (parent-fits r (omega (arith, c.well_formed)) (omega (arith, c.if-count-eq-MOST_NODES.false)) (omega (arith, c.well_formed)) (omega (arith, c.well_formed)))
+pub overflow_cast-nodes : goal.overflow_cast-nodes
+overflow_cast-nodes c =
+    let w = parent-within c.requires.1.1 c.in-Some.is c.requires.0 c.place_point.ensures (omega (arith, c.well_formed)) c.in-New.is in
+    let m = count_most c.requires.1.1 c.in-Some.is in
+    record { fits = omega (arith, c.if-count-eq-MOST_NODES.false) }
 
-pub returns : goal.returns
-returns c rest r =
-    let e = c.place_point-at.ensures r.nodes (near r c.if-count-gt-MOST_NODES.false) r.holds in
-    rw (c.pack.ensures, e)
-    (took_stored r (omega (arith, c.well_formed)) (rw e at c.if-at.false) (rw e at c.if-at-2.false) (omega (arith, c.if-count-eq-MOST_NODES.false)) c.requires.0 (omega (arith, c.well_formed)) (omega (arith, c.well_formed)))
+pub returns-else-count-eq-MOST_NODES : goal.returns-else-count-eq-MOST_NODES
+returns-else-count-eq-MOST_NODES c rest r =
+    let m = count_most r c.in-Some.is in
+    took_stored r c.in-Some.is c.requires.0 c.place_point.ensures (omega (arith, c.well_formed)) c.in-New.is (omega (arith, c.if-count-eq-MOST_NODES.false))

@@ -1,41 +1,16 @@
--- `routes::table::node_at` meets its contract. Assumes nothing.
-use Rattle.routes.specs.Nodes.{lowest_at}
-use Rattle.routes.specs.Entries.{search_here, search_none, same_point}
-use Prim.Native.Nat.{◌%◌}
-use lib.ListN.{get_or}
-use native.Mathlib.Omega.{arith}
-use borrow.Author.Count.{below_none, below_more}
-use borrow.Author.Rules.{rules}
+-- `routes::table::node_at` meets its contract.
+-- Assumes nothing.
+use mathlib.Core.Path.{◌∙◌, refl}
+use Rattle.std.proofs.Common.{rules, tests}
+use Rattle.std.proofs.lemmas.Iterator.{YieldsList-from_slice}
+use Rattle.std.proofs.lemmas.Iterator.Search.{position_from_yields_List}
+use Rattle.routes.specs.Nodes.{stands_at, known_at, lowest_at}
+use Rattle.routes.specs.Placing.{first_passing}
 use Rattle.routes.proofs.table.node_at.Goals as goal
 
-pub loop-i-init : goal.loop-i-init
-loop-i-init c = (search rules, search rules, below_none _)
-
-pub returns-then-nodes-i : goal.returns-then-nodes-i
-unfolding lowest_at
-returns-then-nodes-i c =
-    let a = c.args in
-    let inv = c.loop-i.invariant in (
-      omega arith,
-      λ found e h.
-          rw e
-          (search_here a.count _ (λ j. get_or a.nodes.now j 0 % 4294967296) _
-          (λ j l. rw inv.0 (same_point h (omega arith) (omega arith) j (omega arith) (omega arith)))
-          c.loop-i.i (omega arith) inv.2 c.if-nodes-i.true),
-    )
-
-pub loop-i-preserved : goal.loop-i-preserved
-loop-i-preserved c = let inv = c.loop-i.invariant in (inv.0, omega arith, below_more _ _ inv.2 c.if-nodes-i.false)
-
 pub returns : goal.returns
-unfolding lowest_at
+unfolding known_at lowest_at
 returns c =
     let a = c.args in
-    let inv = c.loop-i.invariant in (
-      omega arith,
-      λ found e h.
-          rw e
-          (search_none a.count _ (λ j. get_or a.nodes.now j 0 % 4294967296) _
-          (λ j l. rw inv.0 (same_point h (omega arith) (omega arith) j (omega arith) (omega arith)))
-          (λ j l. inv.2 j (omega arith))),
-    )
+    position_from_yields_List (stands_at a.x a.y) _ _ _ c.position.ensures.ran (YieldsList-from_slice a.nodes.now (cc)) (λ x b q k. search (rules, tests))
+    ∙ first_passing a.nodes.now (stands_at a.x a.y) _ (λ i l. refl)

@@ -1,36 +1,44 @@
--- `routes::table::place_first` meets its contract. Assumes nothing.
+-- `routes::table::place_first` meets its contract.
+-- Assumes nothing.
 use native.Mathlib.Omega.{arith}
-use Rattle.routes.specs.Entries.{held-layer}
-use mathlib.Core.Path.{◌∙◌, sym}
-use Rattle.laws.specs.Sums.{and_true, and_false}
-use Prim.Native.Nat.{◌<◌}
-use lib.ListN.{length}
-use Rattle.routes.specs.Nodes.{point_refused}
-use Rattle.routes.specs.Placing.{number-below, known-at, unknown-at, unknown, higher-alone}
+use Rattle.std.proofs.lemmas.Bool.Decides.{nat_tests}
+use Rattle.routes.specs.Nodes.{known, known_at, number_on, lowest_at}
+use Rattle.routes.specs.Placing.{some_held, none_held, higher-max, lowest_at_within, placed_alone, placed_nowhere, placed_known, placed_via}
 use Rattle.routes.proofs.table.place_first.Goals as goal
 
-pub returns-then-via-count : goal.returns-then-via-count
-unfolding point_refused
-returns-then-via-count c found last e h q f =
-    let v = c.node_at-via.ensures.1 found e h in
-    let w = c.if-via-count.true ∙ sym e in
-    rw (q, f, ← e, ← v, unknown-at found _ _ v w, unknown found _ _ v w, w, higher-alone, and_true)
+pub returns-then-is_empty : goal.returns-then-is_empty
+returns-then-is_empty c last = placed_alone _ last _ c.requires.0 (grind (arith, nat_tests, c.is_empty.ensures, c.if-is_empty.true))
 
-pub returns : goal.returns
-unfolding point_refused
-returns c found last e h q f =
-    let n = c.node_at-via in
-    let v = n.ensures.1 found e h in
-    let l : n.result < length found = omega (arith, n.ensures.0, c.if-via-count.false) in
-    rw (
-      q,
-      f,
-      c.higher_of.ensures,
-      c.layer_of.ensures,
-      held-layer h n.result l (omega arith),
-      ← e,
-      ← v,
-      known-at found _ _ v l,
-      number-below,
-      and_false,
-    )
+pub returns-in_default : goal.returns-in_default
+returns-in_default c last =
+    let p = c.args.p in
+    placed_nowhere _ last _ c.requires.0 (none_held (known_at c.args.nodes.now p.x p.y) (lowest_at c.args.nodes.now p.x p.y) c.node_at.ensures c.in_default.is)
+    (λ e. grind (arith, nat_tests, c.is_empty.ensures, c.if-is_empty.false))
+
+pub bounds-nodes-via : goal.bounds-nodes-via
+bounds-nodes-via c =
+    let p = c.args.p in
+    let v = some_held (known_at c.args.nodes.now p.x p.y) (lowest_at c.args.nodes.now p.x p.y) c.node_at.ensures c.in-Some.is in
+    rw v.1 (lowest_at_within c.args.nodes.now p.x p.y v.0)
+
+pub offset_bounds-nodes-via : goal.offset_bounds-nodes-via
+offset_bounds-nodes-via c =
+    let p = c.args.p in
+    let v = some_held (known_at c.args.nodes.now p.x p.y) (lowest_at c.args.nodes.now p.x p.y) c.node_at.ensures c.in-Some.is in
+    let l = lowest_at_within c.args.nodes.now p.x p.y v.0 in
+    let w = c.well_formed in
+    record { fits = omega arith }
+
+pub returns-in-Some-on : goal.returns-in-Some-on
+returns-in-Some-on c last =
+    let p = c.args.p in
+    let v = some_held (known_at c.args.nodes.now p.x p.y) (lowest_at c.args.nodes.now p.x p.y) c.node_at.ensures c.in-Some.is in
+    let n = some_held (known c.args.nodes.now p.x p.y p.layer) (number_on c.args.nodes.now p.x p.y p.layer) c.requires.1 c.in-Some-on.is in
+    rw n.1 (placed_known _ last _ c.requires.0 v.0 n.0)
+
+pub returns-in-None : goal.returns-in-None
+returns-in-None c last =
+    let p = c.args.p in
+    let v = some_held (known_at c.args.nodes.now p.x p.y) (lowest_at c.args.nodes.now p.x p.y) c.node_at.ensures c.in-Some.is in
+    let n = none_held (known c.args.nodes.now p.x p.y p.layer) (number_on c.args.nodes.now p.x p.y p.layer) c.requires.1 c.in-None.is in
+    rw (c.max.ensures, v.1, higher-max) (placed_via _ last _ c.requires.0 v.0 n)

@@ -1,11 +1,15 @@
--- `routes::table::place_point` meets its contract. Assumes nothing.
-use Rattle.routes.specs.Placing.{number-below}
-use Rattle.routes.specs.Nodes.{point_refused}
+-- `routes::table::place_point` meets its contract.
+-- Assumes nothing.
+use Rattle.routes.specs.Nodes.{known, number_on}
+use Rattle.routes.specs.Placing.{some_held, none_held, placed_again, placed_behind}
 use Rattle.routes.proofs.table.place_point.Goals as goal
 
-pub returns-then-p : goal.returns-then-p
-returns-then-p c found e h = c.place_first.ensures found _ e h (c.node_on-node.ensures.1 found e h) c.if-p.true
+pub returns-in-Some : goal.returns-in-Some
+returns-in-Some c =
+    let p = c.args.p in
+    placed_again _ _ _ c.if-p.false (some_held (known c.args.nodes.now p.x p.y p.layer) (number_on c.args.nodes.now p.x p.y p.layer) c.node_on-on.ensures c.in-Some.is).0
 
-pub returns : goal.returns
-unfolding point_refused
-returns c found e h = rw (c.node_on-node.ensures.1 found e h, ← e, c.if-p.false, number-below)
+pub returns-in-None : goal.returns-in-None
+returns-in-None c =
+    let p = c.args.p in
+    placed_behind _ _ _ c.if-p.false (none_held (known c.args.nodes.now p.x p.y p.layer) (number_on c.args.nodes.now p.x p.y p.layer) c.node_on-on.ensures c.in-None.is)
