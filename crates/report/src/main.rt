@@ -1,7 +1,7 @@
 // Reads stage, limit and a net file from standard input and prints the piece records of the uncut stage, one a line.
 #![tactic(auto)]
 
-ghost use Rattle.std.specs.Prelude.{◌≡◌, ◌*◌, ◌≤◌, length, take, IfOk, IfSome, OnOk};
+ghost use Rattle.std.specs.Prelude.{◌*◌, ◌≤◌, length, take, IfOk, IfSome, OnOk};
 ghost use Rattle.std.specs.Io.KnownBytes.{Appends};
 ghost use Rattle.net.specs.Layout.{record_bytes};
 ghost use Rattle.net.specs.Numbers.{answered};
@@ -33,9 +33,8 @@ fn run<R: Read, W: Write>(from: &mut R, to: &mut W) -> io::Result<()>
     let stage = console::stage_of(text);
     let limit = console::limit_of(text);
     let file = console::file_of(text);
-    let none = &text[n..];
     let mut out = [0u8; 3072];
-    let answer = antenna::antenna_report(stage, limit, file, none, &mut out);
+    let answer = antenna::antenna_report(stage, limit, file, &[], &mut out);
     print_answer(to, answer, &out)
 }
 
