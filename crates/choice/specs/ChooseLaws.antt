@@ -9,61 +9,63 @@ use Rattle.net.specs.Net.{wire_factor}
 use Rattle.cuts.specs.Passes.{Chosen}
 use Rattle.clusters.specs.Arrays.{clusters_of, down_of, up_of}
 use Rattle.clusters.specs.declared.work.Clusters.{Clusters}
+use Rattle.clusters.specs.Positions.{los, his}
 use Rattle.clusters.specs.FirstPasses.{cuttable}
 use Rattle.counting.specs.declared.work.Counts.{Counts}
+use Rattle.counting.specs.Optional.{flags}
 use Rattle.counting.specs.declared.work.Branches.{Branches}
 use Rattle.counting.specs.Count.{found}
 use Rattle.choice.specs.Choose.{host_mode, cut_here, fits_whole, any_here, Chooses}
 
 module _ (ws : List ℕ) {N : ℕ} (c : Clusters N) (k : Counts N) (limit : ℕ) where
   -- a store at a node above the host changes neither
-  cut_here-set : (any_mode : List Bool) (r i : ℕ) (v : Bool) → (0 < get_or c.lo r 0 → get_or c.host r 0 < r) → r ≤ i →
+  cut_here-set : (any_mode : List Bool) (r i : ℕ) (v : Bool) → (0 < get_or (los c.cuttable) r 0 → get_or c.host r 0 < r) → r ≤ i →
       cut_here c k (set any_mode i v) r ≡ cut_here c k any_mode r
   cut_here-set any_mode r i v below p =
-      by (cuttable c.lo r)
+      by (cuttable (los c.cuttable) r)
       (λ y.
-      let b = below (ltb-true 0 (get_or c.lo r 0) y) in
+      let b = below (ltb-true 0 (get_or (los c.cuttable) r 0) y) in
       rw (get_or-set_other any_mode i (get_or c.host r 0) v false (λ e. native.Mathlib.Nat.lt_irrefl 0 (omega arith))))
       (λ z. rw z)
 
-  any_here-set : (any_mode : List Bool) (here : Bool) (r i : ℕ) (v : Bool) → (0 < get_or c.lo r 0 → get_or c.host r 0 < r) → r ≤ i →
+  any_here-set : (any_mode : List Bool) (here : Bool) (r i : ℕ) (v : Bool) → (0 < get_or (los c.cuttable) r 0 → get_or c.host r 0 < r) → r ≤ i →
       any_here ws c k limit (set any_mode i v) here r ≡ any_here ws c k limit any_mode here r
   any_here-set any_mode here r i v below p =
-      by (cuttable c.lo r)
+      by (cuttable (los c.cuttable) r)
       (λ y.
-      let b = below (ltb-true 0 (get_or c.lo r 0) y) in
+      let b = below (ltb-true 0 (get_or (los c.cuttable) r 0) y) in
       rw (get_or-set_other any_mode i (get_or c.host r 0) v false (λ e. native.Mathlib.Nat.lt_irrefl 0 (omega arith))))
       (λ z. rw z)
 
   -- a node that is no branch
-  pub cut_here-root : (any_mode : List Bool) (r : ℕ) → get_or c.lo r 0 ≤ 0 → false ≡ cut_here c k any_mode r
-  cut_here-root any_mode r l = rw (le-ltb 0 (get_or c.lo r 0) l)
+  pub cut_here-root : (any_mode : List Bool) (r : ℕ) → get_or (los c.cuttable) r 0 ≤ 0 → false ≡ cut_here c k any_mode r
+  cut_here-root any_mode r l = rw (le-ltb 0 (get_or (los c.cuttable) r 0) l)
 
-  pub any_here-root : (any_mode : List Bool) (here : Bool) (r : ℕ) → get_or c.lo r 0 ≤ 0 → get_or k.any_ok r false ≡ any_here ws c k limit any_mode here r
-  any_here-root any_mode here r l = rw (le-ltb 0 (get_or c.lo r 0) l)
+  pub any_here-root : (any_mode : List Bool) (here : Bool) (r : ℕ) → get_or (los c.cuttable) r 0 ≤ 0 → get_or k.any_ok r false ≡ any_here ws c k limit any_mode here r
+  any_here-root any_mode here r l = rw (le-ltb 0 (get_or (los c.cuttable) r 0) l)
 
   -- a branch
   pub cut_here-branch :
       (any_mode : List Bool) (r : ℕ) (here : Bool) →
-      0 < get_or c.lo r 0 →
-      here ≡ cond (host_mode c any_mode r) (get_or k.cut_any r false) (not (get_or k.has_ungated r false)) →
+      0 < get_or (los c.cuttable) r 0 →
+      here ≡ cond (host_mode c any_mode r) (get_or k.cut_any r false) (not (get_or (flags k.ungated) r false)) →
       here ≡ cut_here c k any_mode r
-  cut_here-branch any_mode r here l e = rw (lt-ltb 0 (get_or c.lo r 0) l) e
+  cut_here-branch any_mode r here l e = rw (lt-ltb 0 (get_or (los c.cuttable) r 0) l) e
 
   pub any_here-branch :
       (any_mode : List Bool) (here any fits : Bool) (r : ℕ) →
-      0 < get_or c.lo r 0 →
+      0 < get_or (los c.cuttable) r 0 →
       any ≡ (ltb 0 (get_or k.near r 0) || ((host_mode c any_mode r || here) && fits)) →
       fits ≡ fits_whole ws c k limit r →
       any ≡ any_here ws c k limit any_mode here r
-  any_here-branch any_mode here any fits r l e f = e ∙ rw (lt-ltb 0 (get_or c.lo r 0) l, f)
+  any_here-branch any_mode here any fits r l e f = e ∙ rw (lt-ltb 0 (get_or (los c.cuttable) r 0) l, f)
 
   -- one cluster more
   pub chooses_more :
       (any_mode cut_high : List Bool) (i : ℕ) (h m : Bool) →
       i < length any_mode →
       i < length cut_high →
-      ((r : ℕ) → r ≤ i → 0 < get_or c.lo r 0 → get_or c.host r 0 < r) →
+      ((r : ℕ) → r ≤ i → 0 < get_or (los c.cuttable) r 0 → get_or c.host r 0 < r) →
       h ≡ cut_here c k any_mode i →
       m ≡ any_here ws c k limit any_mode h i →
       ((r : ℕ) → r < i → Chooses ws c k limit any_mode cut_high r) →
@@ -96,7 +98,7 @@ module _ (ws : List ℕ) {N : ℕ} (c : Clusters N) (k : Counts N) (limit : ℕ)
       (s : Stage) (ungated_ok : ℕ → Bool) (ungated_weight : ℕ → ℕ) (b : Branches N) (any_mode cut_high : List Bool) (r : ℕ) →
       s.factor r ≡ wire_factor ws r →
       Chooses ws c k limit any_mode cut_high r →
-      Chosen (clusters_of s c.lo c.hi c.host c.fixed c.gates) limit (found k b ungated_ok ungated_weight) (up_of any_mode cut_high) r
+      Chosen (clusters_of s (los c.cuttable) (his c.cuttable) c.host c.fixed c.gates) limit (found k b ungated_ok ungated_weight) (up_of any_mode cut_high) r
   unfolding clusters_of down_of up_of
   chosen_of s ungated_ok ungated_weight b any_mode cut_high r f d =
       record {

@@ -1,35 +1,43 @@
 // The pass up: the option that each cluster takes, and the branches cut at their highest cuttable point.
 #![tactic(auto)]
 
-ghost use Rattle.std.specs.Prelude.{◌≡◌, Bool, not, ◌&&◌, ◌||◌, cond, List, ℕ, ◌*◌, ◌<◌, ◌≤◌, length, get_or};
+ghost use Rattle.std.specs.Prelude.{◌≡◌, Bool, false, not, ◌&&◌, ◌||◌, cond, List, ℕ, ◌+◌, ◌*◌, ◌<◌, ◌≤◌, length, get_or, leb};
 ghost use Rattle.net.specs.Layout.{wire_bytes};
 ghost use Rattle.net.specs.Limits.{length_bound, weight_bound};
-ghost use Rattle.choice.specs.Choose.{fits_whole, Chooses, Choosable};
+ghost use Rattle.clusters.specs.Stretch.{stretch_weight};
+ghost use Rattle.counting.specs.Optional.{flags};
+ghost use Rattle.choice.specs.Choose.{Chooses, Choosable};
 
 use clusters::stretch::stretch_weight;
-use clusters::work::Clusters;
+use clusters::work::{Clusters, Cuttable};
 use counting::work::Counts;
 
-// A branch is cut at its highest cuttable point: its host takes the any-option, which cuts it, or the ungated one, and it can add nothing without a gate.
-fn is_cut_high(host_any: bool, cut_any: bool, has_ungated: bool) -> bool
-    ensures { result ≡ cond host_any cut_any (not has_ungated) }
+// Branch r is cut at its highest cuttable point: its host takes the any-option, which cuts it, or the ungated one, and it can add nothing without a gate.
+fn is_cut_high<const N: usize>(k: &Counts<N>, r: usize, host_any: bool) -> bool
+    requires { r < N }
+    ensures { result ≡ cond host_any (get_or k.now.cut_any r false) (not (get_or (flags k.now.ungated) r false)) }
 {
-    if host_any { cut_any } else { !has_ungated }
+    if host_any {
+        k.cut_any[r]
+    } else {
+        k.ungated[r].is_none()
+    }
 }
 
 // The any-option of cluster r is within the limit with all of branch r's wire from its lowest to its highest cuttable point.
 fn fits_whole<const N: usize>(
     wires: &[u8],
-    c: &Clusters<N>,
-    k: &Counts<N>,
     r: usize,
+    ends: Cuttable,
+    k: &Counts<N>,
     limit: u64,
 ) -> bool
     requires r_nonzero { (0 < r) × (r < N) × (wire_bytes * r ≤ length wires.now) }
-    requires lo_le_hi { (get_or c.now.lo r 0 ≤ get_or c.now.hi r 0) × (get_or c.now.hi r 0 < length_bound) × (get_or k.now.any_weight r 0 < weight_bound) }
-    ensures { result ≡ fits_whole wires.now c.now k.now limit r }
+    requires lo_le_hi { (ends.lo ≤ ends.hi) × (ends.hi < length_bound) × (get_or k.now.any_weight r 0 < weight_bound) }
+    ensures { result ≡ (get_or k.now.any_ok r false && leb (get_or k.now.any_weight r 0 + stretch_weight wires.now r ends.lo ends.hi) limit) }
 {
-    k.any_ok[r] && k.any_weight[r] + stretch_weight(wires, r, c.lo[r], c.hi[r]) <= limit
+    let (lo, hi) = (u64::from(ends.lo), u64::from(ends.hi));
+    k.any_ok[r] && k.any_weight[r] + stretch_weight(wires, r, lo, hi) <= limit
 }
 
 // A branch's cluster takes the any-option: the branch has a jumper of its own; or its host takes it, or the branch is cut, and all of its wire fits.
@@ -53,15 +61,15 @@ pub fn choose<const N: usize>(
 {
     let mut any_mode = [false; N];
     for r in 0..c.n {
-        if c.lo[r] == 0 {
-            cut_high[r] = false;
-            any_mode[r] = k.any_ok[r];
-        } else {
+        if let Some(ends) = c.cuttable[r] {
             let host_any = any_mode[c.host[r]];
-            let here = is_cut_high(host_any, k.cut_any[r], k.has_ungated[r]);
-            let fits = fits_whole(wires, c, k, r, limit);
+            let here = is_cut_high(k, r, host_any);
+            let fits = fits_whole(wires, r, ends, k, limit);
             cut_high[r] = here;
             any_mode[r] = takes_any(0 < k.near[r], host_any, here, fits);
+        } else {
+            cut_high[r] = false;
+            any_mode[r] = k.any_ok[r];
         }
     }
 }

@@ -7,7 +7,7 @@ use borrow.Author.Tests.{ltb-true, ltb-false, lt-ltb}
 use Rattle.laws.specs.Sums.{by, no_both}
 use Rattle.net.specs.Layout.{newest}
 use Rattle.net.specs.Net.{node_count, wire_length, barred}
-use Rattle.net.specs.Stage.{stage_of}
+use Rattle.net.specs.Stage.{Stage, stage_of}
 use Rattle.points.specs.Cuttable.{Checked, Lowest, Highest}
 use Rattle.cuts.specs.Fits.{free_at}
 use Rattle.cuts.specs.BridgeFits.{free_of, of_free}
@@ -23,6 +23,10 @@ checked w i p q =
       parent = omega (arith, w.below i p q);
       straight = w.straight i p q;
     }
+
+-- where there is no lowest one, there is no highest
+pub none-highest : (s : Stage) (i : ℕ) → LowestFree s i 0 → HighestFree s i 0
+none-highest s i l = record { free = λ h. absurd (lt_irrefl 0 h); most = λ t f. absurd (lt_irrefl 0 (l.some t f)) }
 
 module _ (ns ws os : List ℕ) (k : ℕ) where
   pub present_is : (i : ℕ) → i < node_count ns → (stage_of newest ns ws os k).present i ≡ is_present ws k i

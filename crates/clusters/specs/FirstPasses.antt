@@ -9,6 +9,7 @@ use Rattle.net.specs.Stage.{Stage, stage_of}
 use Rattle.cuts.specs.Fits.{Fits, free_at}
 use Rattle.cuts.specs.Bounds.{all_weight}
 use Rattle.clusters.specs.declared.work.Clusters.{Clusters}
+use Rattle.clusters.specs.Positions.{los, his}
 use Rattle.clusters.specs.Arrays.{clusters_of}
 
 -- what reading a net has checked, as far as these passes use it
@@ -96,19 +97,19 @@ gathered n a x r = sum n (λ i. χ (eqb (get_or a i 0) r) (x i))
 -- what each of the first passes leaves in its array
 pub record Filled (ns ws os : List ℕ) (k : ℕ) {N : ℕ} (c : Clusters N) : Type 0 where
   pub n_is : c.n ≡ node_count ns
-  pub ends : Ends (stage_of newest ns ws os k) c.lo c.hi
-  pub roots : Leads (node_count ns) (whole ws k c.lo) (wire_parent ws) c.root
-  pub hosts : (i : ℕ) → i < node_count ns → get_or c.host i 0 ≡ host_of ws c.lo c.root i
+  pub ends : Ends (stage_of newest ns ws os k) (los c.cuttable) (his c.cuttable)
+  pub roots : Leads (node_count ns) (whole ws k (los c.cuttable)) (wire_parent ws) c.root
+  pub hosts : (i : ℕ) → i < node_count ns → get_or c.host i 0 ≡ host_of ws (los c.cuttable) c.root i
   pub components : Leads (node_count ns) (is_present ws k) (wire_parent ws) c.component
   pub sources : (r : ℕ) → r < node_count ns → get_or c.sourced r false ≡ source_in ns c.component (node_count ns) r
   pub gated : (r : ℕ) → r < node_count ns → get_or c.gates r 0 ≡ gathered (node_count ns) c.root (gate_of ns c.component c.sourced) r
-  pub weighed : (r : ℕ) → r < node_count ns → get_or c.fixed r 0 ≡ gathered (node_count ns) c.root (lower_weight ns ws k c.lo) r + gathered (node_count ns) c.host (upper_weight ns ws c.lo c.hi) r
+  pub weighed : (r : ℕ) → r < node_count ns → get_or c.fixed r 0 ≡ gathered (node_count ns) c.root (lower_weight ns ws k (los c.cuttable)) r + gathered (node_count ns) c.host (upper_weight ns ws (los c.cuttable) (his c.cuttable)) r
 
 -- what all of them promise: the arrays fit the net at the stage, and their numbers are small
 pub record Clustered (ns ws os : List ℕ) (k : ℕ) {N : ℕ} (c : Clusters N) : Type 0 where
   pub n_is : c.n ≡ node_count ns
-  pub fits : Fits (stage_of newest ns ws os k) (clusters_of (stage_of newest ns ws os k) c.lo c.hi c.host c.fixed c.gates) (λ i. get_or c.root i 0) (λ i. get_or c.component i 0)
+  pub fits : Fits (stage_of newest ns ws os k) (clusters_of (stage_of newest ns ws os k) (los c.cuttable) (his c.cuttable) c.host c.fixed c.gates) (λ i. get_or c.root i 0) (λ i. get_or c.component i 0)
   pub components_fall : Falling (node_count ns) c.component
   pub sources : (r : ℕ) → r < node_count ns → get_or c.sourced r false ≡ source_in ns c.component (node_count ns) r
-  pub light : all_weight (clusters_of (stage_of newest ns ws os k) c.lo c.hi c.host c.fixed c.gates) < weight_bound
-  pub short : (r : ℕ) → r < node_count ns → get_or c.hi r 0 < length_bound
+  pub light : all_weight (clusters_of (stage_of newest ns ws os k) (los c.cuttable) (his c.cuttable) c.host c.fixed c.gates) < weight_bound
+  pub short : (r : ℕ) → r < node_count ns → get_or (his c.cuttable) r 0 < length_bound

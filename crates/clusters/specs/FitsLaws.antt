@@ -20,6 +20,7 @@ use Rattle.cuts.specs.Bounds.{all_weight, all_weight-≤}
 use Rattle.cuts.specs.BridgeFits.{free_of}
 use Rattle.clusters.specs.Arrays.{clusters_of}
 use Rattle.clusters.specs.declared.work.Clusters.{Clusters}
+use Rattle.clusters.specs.Positions.{los, his}
 use Rattle.clusters.specs.FirstPasses.{Wired, Ends, Filled, Clustered, is_present, cuttable, Falling, host_of, source_in, gate_of, lower_weight, upper_weight}
 use Rattle.clusters.specs.Turns.{components_fall}
 use Rattle.clusters.specs.EndsLaws.{checked, present_is}
@@ -78,26 +79,26 @@ whole_parts false false f false a l u = omega arith
 
 module _ (ns ws os : List ℕ) (k : ℕ) (w : Wired ns ws) {N : ℕ} (c : Clusters N) (s : Filled ns ws os k c) where
   -- a wire that can be cut is present, and its node leads its cluster
-  cuttable-is_present : (i : ℕ) → i < node_count ns → cuttable c.lo i ≡ true → is_present ws k i ≡ true
+  cuttable-is_present : (i : ℕ) → i < node_count ns → cuttable (los c.cuttable) i ≡ true → is_present ws k i ≡ true
   unfolding stage_of
   cuttable-is_present i p y =
-      sym (present_is ns ws os k i p) ∙ (free_of (stage_of newest ns ws os k) i (get_or c.lo i 0) ((s.ends.low i p).free (ltb-true 0 (get_or c.lo i 0) y))).present
+      sym (present_is ns ws os k i p) ∙ (free_of (stage_of newest ns ws os k) i (get_or (los c.cuttable) i 0) ((s.ends.low i p).free (ltb-true 0 (get_or (los c.cuttable) i 0) y))).present
 
-  cuttable_leads : (i : ℕ) → i < node_count ns → cuttable c.lo i ≡ true → get_or c.root i 0 ≡ i
-  cuttable_leads i p y = rw (and_no_right (is_present ws k i) {b = not (cuttable c.lo i)} (ap not y)) at (s.roots i p)
+  cuttable_leads : (i : ℕ) → i < node_count ns → cuttable (los c.cuttable) i ≡ true → get_or c.root i 0 ≡ i
+  cuttable_leads i p y = rw (and_no_right (is_present ws k i) {b = not (cuttable (los c.cuttable) i)} (ap not y)) at (s.roots i p)
 
   fixed-parts : (r i : ℕ) → i < node_count ns →
-      fixed_part (stage_of newest ns ws os k) (clusters_of (stage_of newest ns ws os k) c.lo c.hi c.host c.fixed c.gates) (λ j. get_or c.root j 0) r i
-      ≡ χ (eqb (get_or c.root i 0) r) (lower_weight ns ws k c.lo i) + χ (eqb (get_or c.host i 0) r) (upper_weight ns ws c.lo c.hi i)
+      fixed_part (stage_of newest ns ws os k) (clusters_of (stage_of newest ns ws os k) (los c.cuttable) (his c.cuttable) c.host c.fixed c.gates) (λ j. get_or c.root j 0) r i
+      ≡ χ (eqb (get_or c.root i 0) r) (lower_weight ns ws k (los c.cuttable) i) + χ (eqb (get_or c.host i 0) r) (upper_weight ns ws (los c.cuttable) (his c.cuttable) i)
   unfolding fixed_part clusters_of stage_of
   fixed-parts r i p =
-      by (cuttable c.lo i)
+      by (cuttable (los c.cuttable) i)
       (λ y.
       rw (y, cuttable-is_present i p y, cuttable_leads i p y)
-      (cut_parts ((stage_of newest ns ws os k).present i) (eqb i r) (eqb (get_or c.host i 0) r) (wire_length ns ws i * wire_factor ws i) (get_or c.lo i 0 * wire_factor ws i) ((wire_length ns ws i - get_or c.hi i 0) * wire_factor ws i)))
+      (cut_parts ((stage_of newest ns ws os k).present i) (eqb i r) (eqb (get_or c.host i 0) r) (wire_length ns ws i * wire_factor ws i) (get_or (los c.cuttable) i 0 * wire_factor ws i) ((wire_length ns ws i - get_or (his c.cuttable) i 0) * wire_factor ws i)))
       (λ n.
       rw (n, present_is ns ws os k i p)
-      (whole_parts (is_present ws k i) (eqb (get_or c.root i 0) r) (eqb i r) (eqb (get_or c.host i 0) r) (wire_length ns ws i * wire_factor ws i) (get_or c.lo i 0 * wire_factor ws i) ((wire_length ns ws i - get_or c.hi i 0) * wire_factor ws i)))
+      (whole_parts (is_present ws k i) (eqb (get_or c.root i 0) r) (eqb i r) (eqb (get_or c.host i 0) r) (wire_length ns ws i * wire_factor ws i) (get_or (los c.cuttable) i 0 * wire_factor ws i) ((wire_length ns ws i - get_or (his c.cuttable) i 0) * wire_factor ws i)))
 
   component_inside : (i : ℕ) → i < node_count ns → get_or c.component i 0 < node_count ns
   component_inside i p =
@@ -110,32 +111,32 @@ module _ (ns ws os : List ℕ) (k : ℕ) (w : Wired ns ws) {N : ℕ} (c : Cluste
       rw (s.sources (get_or c.component i 0) (component_inside i p))
       (χ-and (eqb (get_or c.root i 0) r) (is_gate (node_flags ns i) && not (source_in ns c.component (node_count ns) (get_or c.component i 0))) 1)
 
-  pub fits_of : Fits (stage_of newest ns ws os k) (clusters_of (stage_of newest ns ws os k) c.lo c.hi c.host c.fixed c.gates) (λ i. get_or c.root i 0) (λ i. get_or c.component i 0)
+  pub fits_of : Fits (stage_of newest ns ws os k) (clusters_of (stage_of newest ns ws os k) (los c.cuttable) (his c.cuttable) c.host c.fixed c.gates) (λ i. get_or c.root i 0) (λ i. get_or c.component i 0)
   unfolding clusters_of stage_of
   fits_of =
       record {
         nodes_is = refl;
         factor_is = λ i p. refl;
         free_is = λ i t p. refl;
-        lo_free = λ i p y. (s.ends.low i p).free (ltb-true 0 (get_or c.lo i 0) y);
+        lo_free = λ i p y. (s.ends.low i p).free (ltb-true 0 (get_or (los c.cuttable) i 0) y);
         hi_free = λ i p y.
-            let l = ltb-true 0 (get_or c.lo i 0) y in
-            let m = (s.ends.high i p).most (get_or c.lo i 0) ((s.ends.low i p).free l) in
+            let l = ltb-true 0 (get_or (los c.cuttable) i 0) y in
+            let m = (s.ends.high i p).most (get_or (los c.cuttable) i 0) ((s.ends.low i p).free l) in
             (s.ends.high i p).free (omega arith);
         lo_least = λ i t p f. (s.ends.low i p).least t f;
         hi_most = λ i t p f. (s.ends.high i p).most t f;
-        cuttable_if = λ i t p f. lt-ltb 0 (get_or c.lo i 0) ((s.ends.low i p).some t f);
+        cuttable_if = λ i t p f. lt-ltb 0 (get_or (los c.cuttable) i 0) ((s.ends.low i p).some t f);
         root_up = λ i p present n.
-            rw (and_intro {a = is_present ws k i} {b = not (cuttable c.lo i)} (sym (present_is ns ws os k i p) ∙ present) (ap not n)) at (s.roots i p);
+            rw (and_intro {a = is_present ws k i} {b = not (cuttable (los c.cuttable) i)} (sym (present_is ns ws os k i p) ∙ present) (ap not n)) at (s.roots i p);
         root_own = λ i p h.
-            rw (ap (λ (t : Bool). t && not (cuttable c.lo i)) (sym (present_is ns ws os k i p)) ∙ h) at (s.roots i p);
+            rw (ap (λ (t : Bool). t && not (cuttable (los c.cuttable) i)) (sym (present_is ns ws os k i p)) ∙ h) at (s.roots i p);
         host_is = λ i p y. rw y at (s.hosts i p);
         component_up = λ i p present. rw (sym (present_is ns ws os k i p) ∙ present) at (s.components i p);
         component_own = λ i p absent. rw (sym (present_is ns ws os k i p) ∙ absent) at (s.components i p);
         fixed_is = λ r p.
             s.weighed r p
             ∙ sym (sum_ap (node_count ns) (λ i q. fixed-parts r i q)
-            ∙ sum-+ (node_count ns) (λ i. χ (eqb (get_or c.root i 0) r) (lower_weight ns ws k c.lo i)) (λ i. χ (eqb (get_or c.host i 0) r) (upper_weight ns ws c.lo c.hi i)));
+            ∙ sum-+ (node_count ns) (λ i. χ (eqb (get_or c.root i 0) r) (lower_weight ns ws k (los c.cuttable) i)) (λ i. χ (eqb (get_or c.host i 0) r) (upper_weight ns ws (los c.cuttable) (his c.cuttable) i)));
         gates_is = λ r p. s.gated r p ∙ sym (sum_ap (node_count ns) (λ i q. live r i q));
       }
 
@@ -156,11 +157,11 @@ weight-small ns ws nodes wires i =
     mul-le-mul l (factor-≤ ws wires i)
 
 module _ (ns ws os : List ℕ) (k : ℕ) (w : Wired ns ws) (nodes : Bytes ns) (wires : Bytes ws) {N : ℕ} (c : Clusters N) (s : Filled ns ws os k c) where
-  pub light_of : all_weight (clusters_of (stage_of newest ns ws os k) c.lo c.hi c.host c.fixed c.gates) < weight_bound
+  pub light_of : all_weight (clusters_of (stage_of newest ns ws os k) (los c.cuttable) (his c.cuttable) c.host c.fixed c.gates) < weight_bound
   unfolding stage_of
   light_of =
       let a =
-      all_weight-≤ (stage_of newest ns ws os k) (clusters_of (stage_of newest ns ws os k) c.lo c.hi c.host c.fixed c.gates) (λ i. get_or c.root i 0) (λ i. get_or c.component i 0)
+      all_weight-≤ (stage_of newest ns ws os k) (clusters_of (stage_of newest ns ws os k) (los c.cuttable) (his c.cuttable) c.host c.fixed c.gates) (λ i. get_or c.root i 0) (λ i. get_or c.component i 0)
       (formed_of w os k)
       (fits_of ns ws os k w c s) in
       let b = sum_bound (node_count ns) (2 * wire_weight_bound) {f = λ i. wire_length ns ws i * wire_factor ws i} (λ i p. weight-small ns ws nodes wires i) in
@@ -187,5 +188,5 @@ clustered_of {ns} {ws} {os} {k} w nodes wires {N} {c} s =
       components_fall = components_fall w k c.component s.components;
       sources = s.sources;
       light = light_of ns ws os k w nodes wires c s;
-      short = short_of ns ws os k w nodes c.lo c.hi s.ends;
+      short = short_of ns ws os k w nodes (los c.cuttable) (his c.cuttable) s.ends;
     }

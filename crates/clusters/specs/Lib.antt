@@ -1,5 +1,6 @@
 pub mod Arrays
 pub mod Stretch
+pub mod Positions
 pub mod FirstPasses
 pub mod Turns
 pub mod EndsLaws

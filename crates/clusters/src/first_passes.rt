@@ -22,9 +22,9 @@ pub fn first_passes<const N: usize>(
     ensures { Clustered nodes.now wires.now obstacles.now stage c.new }
 {
     c.n = node_count(nodes);
-    find_cuttable(nodes, wires, obstacles, stage, &mut c.lo, &mut c.hi);
-    find_roots(nodes, wires, stage, &c.lo, &mut c.root);
-    find_hosts(nodes, wires, &c.lo, &c.root, &mut c.host);
+    find_cuttable(nodes, wires, obstacles, stage, &mut c.cuttable);
+    find_roots(nodes, wires, stage, &c.cuttable, &mut c.root);
+    find_hosts(nodes, wires, &c.cuttable, &c.root, &mut c.host);
     find_components(nodes, wires, stage, &mut c.component);
     mark_sources(nodes, &c.component, &mut c.sourced);
     count_gates(nodes, &c.root, &c.component, &c.sourced, &mut c.gates);
@@ -32,8 +32,7 @@ pub fn first_passes<const N: usize>(
         nodes,
         wires,
         stage,
-        &c.lo,
-        &c.hi,
+        &c.cuttable,
         &c.root,
         &c.host,
         &mut c.fixed,

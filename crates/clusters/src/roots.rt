@@ -2,8 +2,10 @@
 ghost use Rattle.std.specs.Prelude.{◌≡◌, Bool, true, cond, ℕ, ◌*◌, ◌<◌, ◌≤◌, length, get_or};
 ghost use Rattle.net.specs.Layout.{wire_bytes};
 ghost use Rattle.net.specs.Net.{node_count, wire_parent};
+ghost use Rattle.clusters.specs.Positions.{los};
 ghost use Rattle.clusters.specs.FirstPasses.{Wired, is_present, whole, Leads, host_of};
 
+use crate::work::Cuttable;
 use net::fields::{is_present, node_count, wire_at};
 
 // The node that each node leads to, lower nodes first: where its parent leads if its wire joins them, else itself.
@@ -24,15 +26,21 @@ fn find_leaders<F: Fn(usize) -> bool>(nodes: &[u8], wires: &[u8], joined: F, lea
 }
 
 // Roots of clusters: a node whose wire is present and cannot be cut has its parent's.
-pub fn find_roots(nodes: &[u8], wires: &[u8], stage: u8, lo: &[u64], root: &mut [usize])
+pub fn find_roots(
+    nodes: &[u8],
+    wires: &[u8],
+    stage: u8,
+    cuttable: &[Option<Cuttable>],
+    root: &mut [usize],
+)
     requires wired { Wired nodes.now wires.now }
-    requires nodes_in_bounds { (node_count nodes.now ≤ length lo.now) × (node_count nodes.now ≤ length root.old) }
-    ensures { Leads (node_count nodes.now) (whole wires.now stage lo.now) (wire_parent wires.now) root.new }
+    requires nodes_in_bounds { (node_count nodes.now ≤ length cuttable.now) × (node_count nodes.now ≤ length root.old) }
+    ensures { Leads (node_count nodes.now) (whole wires.now stage (los cuttable.now)) (wire_parent wires.now) root.new }
 {
     find_leaders(
         nodes,
         wires,
-        |i| is_present(stage, wires, i) && lo[i] == 0,
+        |i| is_present(stage, wires, i) && cuttable[i].is_none(),
         root,
     );
 }
@@ -47,26 +55,32 @@ pub fn find_components(nodes: &[u8], wires: &[u8], stage: u8, component: &mut [u
 }
 
 // The host of node i: its parent's root where wire i can be cut, else 0.
-fn host_of(wires: &[u8], lo: &[u64], root: &[usize], i: usize) -> usize
-    requires i_in_bounds { (wire_bytes * i ≤ length wires.now) × (i < length lo.now) × (i < length root.now) }
-    requires i_bound { (0 < i → wire_parent wires.now i < i) × (0 < get_or lo.now i 0 → 0 < i) }
-    ensures { result ≡ host_of wires.now lo.now root.now i }
+fn host_of(wires: &[u8], cuttable: &[Option<Cuttable>], root: &[usize], i: usize) -> usize
+    requires i_in_bounds { (wire_bytes * i ≤ length wires.now) × (i < length cuttable.now) × (i < length root.now) }
+    requires i_bound { (0 < i → wire_parent wires.now i < i) × (0 < get_or (los cuttable.now) i 0 → 0 < i) }
+    ensures { result ≡ host_of wires.now (los cuttable.now) root.now i }
 {
-    if 0 < lo[i] {
+    if cuttable[i].is_some() {
         return root[wire_at(wires, i).parent];
     }
     0
 }
 
 // Hosts of branches: the cluster that each hangs on.
-pub fn find_hosts(nodes: &[u8], wires: &[u8], lo: &[u64], root: &[usize], host: &mut [usize])
+pub fn find_hosts(
+    nodes: &[u8],
+    wires: &[u8],
+    cuttable: &[Option<Cuttable>],
+    root: &[usize],
+    host: &mut [usize],
+)
     requires wired { Wired nodes.now wires.now }
-    requires nodes_in_bounds { (node_count nodes.now ≤ length lo.now) × (node_count nodes.now ≤ length root.now) }
+    requires nodes_in_bounds { (node_count nodes.now ≤ length cuttable.now) × (node_count nodes.now ≤ length root.now) }
     requires nodes_in_bounds_2 { node_count nodes.now ≤ length host.old }
-    requires lo_value { get_or lo.now 0 0 ≡ 0 }
-    ensures { (i : ℕ) → i < node_count nodes.now → get_or host.new i 0 ≡ host_of wires.now lo.now root.now i }
+    requires lo_value { get_or (los cuttable.now) 0 0 ≡ 0 }
+    ensures { (i : ℕ) → i < node_count nodes.now → get_or host.new i 0 ≡ host_of wires.now (los cuttable.now) root.now i }
 {
     for i in 0..node_count(nodes) {
-        host[i] = host_of(wires, lo, root, i);
+        host[i] = host_of(wires, cuttable, root, i);
     }
 }

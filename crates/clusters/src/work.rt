@@ -1,5 +1,13 @@
 // The work arrays that the first passes of repair fill.
-ghost use Rattle.std.specs.Prelude.{◌≤◌};
+ghost use Rattle.std.specs.Prelude.{◌<◌, ◌≤◌};
+
+// The lowest and the highest position of a wire that may be cut.
+#[derive(Clone, Copy)]
+pub struct Cuttable {
+    pub lo: u32,
+    pub hi: u32,
+    ghost positive: { 0 < lo },
+}
 
 // What the first passes find of a net with at most N nodes.
 #[derive(Drop)]
@@ -7,9 +15,8 @@ pub struct Clusters<const N: usize> {
     // the number of nodes: an entry for each node below it
     pub n: usize,
     ghost few: { n ≤ N },
-    // the lowest and the highest point of each wire that may be cut, 0 where there is none
-    pub lo: [u64; N],
-    pub hi: [u64; N],
+    // for each wire, where it may be cut, if it may
+    pub cuttable: [Option<Cuttable>; N],
     // the lowest node of each node's cluster
     pub root: [usize; N],
     // the root of the cluster that a branch hangs on, 0 for a node that is no branch
@@ -27,8 +34,7 @@ impl<const N: usize> Clusters<N> {
     pub fn new() -> Self {
         Clusters {
             n: 0,
-            lo: [0; N],
-            hi: [0; N],
+            cuttable: [None; N],
             root: [0; N],
             host: [0; N],
             component: [0; N],

@@ -10,9 +10,11 @@ use Rattle.cuts.specs.Cluster.{Clusters, Sound}
 use Rattle.cuts.specs.Passes.{Down, Counted}
 use Rattle.cuts.specs.Bounds.{all_weight}
 use Rattle.clusters.specs.declared.work.Clusters as work
+use Rattle.clusters.specs.Positions.{los, his}
 use Rattle.clusters.specs.Arrays.{down_of}
 use Rattle.counting.specs.declared.work.Counts.{Counts}
 use Rattle.counting.specs.declared.work.Branches.{Branches}
+use Rattle.counting.specs.Optional.{flags, weights}
 use Rattle.counting.specs.Climb.{open_at}
 
 -- the clusters of the work arrays: every wire counts as made
@@ -20,9 +22,9 @@ unfoldable pub work_clusters : List ℕ → List ℕ → List ℕ → {N : ℕ} 
 work_clusters ns ws os c =
     record {
       nodes = c.n;
-      cuttable = λ i. ltb 0 (get_or c.lo i 0);
-      lo = λ i. get_or c.lo i 0;
-      hi = λ i. get_or c.hi i 0;
+      cuttable = λ i. ltb 0 (get_or (los c.cuttable) i 0);
+      lo = λ i. get_or (los c.cuttable) i 0;
+      hi = λ i. get_or (his c.cuttable) i 0;
       free = λ i t. open_at ns ws os i t;
       factor = λ i. wire_factor ws i;
       host = λ i. get_or c.host i 0;
@@ -44,12 +46,12 @@ NoneHopeless c limit = (r : ℕ) → r < c.n → 0 < get_or c.gates r 0 → get_
 
 -- no branch of a cluster below r is marked
 abbrev pub Unmarked : {N : ℕ} → work.Clusters N → List Bool → ℕ → Type 0
-Unmarked c cut_any r = (j : ℕ) → j < c.n → 0 < get_or c.lo j 0 → get_or c.host j 0 < r → get_or cut_any j false ≡ false
+Unmarked c cut_any r = (j : ℕ) → j < c.n → 0 < get_or (los c.cuttable) j 0 → get_or c.host j 0 < r → get_or cut_any j false ≡ false
 
 -- what the arrays hold, with what closings find of the ungated option, which is in no array
 abbrev pub found : {N : ℕ} → Counts N → Branches N → (ℕ → Bool) → (ℕ → ℕ) → Down
 found k b ungated_ok ungated_weight =
-    down_of k.cut_any k.fewest k.any_ok k.any_weight ungated_ok ungated_weight b.count b.lightest k.has_ungated b.ungated k.near
+    down_of k.cut_any k.fewest k.any_ok k.any_weight ungated_ok ungated_weight b.count b.lightest (flags k.ungated) (weights k.ungated) k.near
 
 -- the clusters from r on are closed and climbed
 pub record CountedFrom (c : Clusters) (limit : ℕ) {N : ℕ} (k : Counts N) (b : Branches N) (r : ℕ) : Type 0 where
@@ -65,4 +67,4 @@ root_sum m lo fewest = sum m (λ r. χ (not (ltb 0 (get_or lo r 0))) (get_or few
 pub record CountedAll (ns ws os : List ℕ) {N : ℕ} (c : work.Clusters N) (limit : ℕ) (k : Counts N) (points : ℕ) : Type 0 where
   pub branches : Branches N
   pub counted : CountedFrom (work_clusters ns ws os c) limit k branches 0
-  pub points_is : points ≡ root_sum c.n c.lo k.fewest
+  pub points_is : points ≡ root_sum c.n (los c.cuttable) k.fewest

@@ -9,9 +9,11 @@ use borrow.Author.Tests.{eqb-true, eq-eqb, ne_eqb, ltb-true, ltb-false, lt-ltb}
 use Rattle.laws.specs.Sums.{and_left, and_right, not_true_false}
 use Rattle.cuts.specs.Passes.{Down}
 use Rattle.cuts.specs.Bounds.{sums_bounded}
+use Rattle.clusters.specs.Positions.{los, his}
 use Rattle.clusters.specs.Arrays.{down_of}
 use Rattle.counting.specs.declared.close.Closing.{Closing}
 use Rattle.counting.specs.declared.climb.Climbing.{Climbing}
+use Rattle.counting.specs.Optional.{flags, weights, mapped_same, mapped_other}
 use Rattle.counting.specs.Close.{hung, HungAbove, NoneCut, branch_sum, flagged_sum, Room, cluster_at, any_ok, any_weight, ungated_ok, ungated_weight, Closes, branches_of, closing_of}
 use Rattle.counting.specs.Climb.{Branch, ClimbsAt, wire_of, climbing_of}
 use Rattle.clusters.specs.declared.work.Clusters as work
@@ -36,18 +38,17 @@ pub record Entries (r : ℕ) {N : ℕ} (k : Counts N) (b : Branches N) : Type 0 
   pub fewest : r < length k.fewest
   pub any_ok : r < length k.any_ok
   pub any_weight : r < length k.any_weight
-  pub has_ungated : r < length k.has_ungated
   pub near : r < length k.near
   pub count : r < length b.count
   pub lightest : r < length b.lightest
-  pub ungated : r < length b.ungated
+  pub ungated : r < length k.ungated
 
 module _ (ns ws os : List ℕ) {N : ℕ} (c : work.Clusters N) (ready : Ready ns ws os c) where
   -- a cuttable wire has its lowest and highest open position
-  pub branch_of : (j : ℕ) → j < c.n → 0 < get_or c.lo j 0 → Branch ns ws os j (get_or c.lo j 0) (get_or c.hi j 0)
+  pub branch_of : (j : ℕ) → j < c.n → 0 < get_or (los c.cuttable) j 0 → Branch ns ws os j (get_or (los c.cuttable) j 0) (get_or (his c.cuttable) j 0)
   unfolding work_clusters
   branch_of j p l =
-      let y = lt-ltb 0 (get_or c.lo j 0) l in
+      let y = lt-ltb 0 (get_or (los c.cuttable) j 0) l in
       let s = ready.sound in
       let b = s.host_below j p y in
       record {
@@ -55,40 +56,40 @@ module _ (ns ws os : List ℕ) {N : ℕ} (c : work.Clusters N) (ready : Ready ns
         factor = ready.factor j (omega arith) p;
         lo_open = s.lo_free j p y;
         hi_open = s.hi_free j p y;
-        in_order = s.lo_least j (get_or c.hi j 0) p y (s.hi_free j p y);
+        in_order = s.lo_least j (get_or (his c.cuttable) j 0) p y (s.hi_free j p y);
       }
 
-  hung-higher : (r j : ℕ) → j < c.n → hung c.lo c.host r j ≡ true → r < j
+  hung-higher : (r j : ℕ) → j < c.n → hung (los c.cuttable) c.host r j ≡ true → r < j
   unfolding work_clusters
   hung-higher r j p h =
-      let e = eqb-true (get_or c.host j 0) r (and_right (ltb 0 (get_or c.lo j 0)) (eqb (get_or c.host j 0) r) h) in
-      let b = ready.sound.host_below j p (and_left (ltb 0 (get_or c.lo j 0)) (eqb (get_or c.host j 0) r) h) in
+      let e = eqb-true (get_or c.host j 0) r (and_right (ltb 0 (get_or (los c.cuttable) j 0)) (eqb (get_or c.host j 0) r) h) in
+      let b = ready.sound.host_below j p (and_left (ltb 0 (get_or (los c.cuttable) j 0)) (eqb (get_or c.host j 0) r) h) in
       omega arith
 
-  pub hung-above : (r : ℕ) → r < c.n → HungAbove c.lo c.host r
-  hung-above r p j l = not_true_false (hung c.lo c.host r j) (λ h. let b = hung-higher r j (omega arith) h in omega arith)
+  pub hung-above : (r : ℕ) → r < c.n → HungAbove (los c.cuttable) c.host r
+  hung-above r p j l = not_true_false (hung (los c.cuttable) c.host r j) (λ h. let b = hung-higher r j (omega arith) h in omega arith)
 
   -- marks
-  pub unmarked_branches : (cut_any : List Bool) (r : ℕ) → Unmarked c cut_any (r + 1) → NoneCut c.n c.lo c.host cut_any r
+  pub unmarked_branches : (cut_any : List Bool) (r : ℕ) → Unmarked c cut_any (r + 1) → NoneCut c.n (los c.cuttable) c.host cut_any r
   unmarked_branches cut_any r u j p h =
-      let e = eqb-true (get_or c.host j 0) r (and_right (ltb 0 (get_or c.lo j 0)) (eqb (get_or c.host j 0) r) h) in
-      u j p (ltb-true 0 (get_or c.lo j 0) (and_left (ltb 0 (get_or c.lo j 0)) (eqb (get_or c.host j 0) r) h)) (omega arith)
+      let e = eqb-true (get_or c.host j 0) r (and_right (ltb 0 (get_or (los c.cuttable) j 0)) (eqb (get_or c.host j 0) r) h) in
+      u j p (ltb-true 0 (get_or (los c.cuttable) j 0) (and_left (ltb 0 (get_or (los c.cuttable) j 0)) (eqb (get_or c.host j 0) r) h)) (omega arith)
 
   pub unmarked_less :
       (before cut_any : List Bool) (r : ℕ) →
       Unmarked c before (r + 1) →
-      ((j : ℕ) → hung c.lo c.host r j ≡ false → get_or cut_any j false ≡ get_or before j false) →
+      ((j : ℕ) → hung (los c.cuttable) c.host r j ≡ false → get_or cut_any j false ≡ get_or before j false) →
       Unmarked c cut_any r
   unmarked_less before cut_any r u k j p l h =
       let ne : eqb (get_or c.host j 0) r ≡ false = ne_eqb (get_or c.host j 0) r (λ e. omega arith) in
-      k j (Rattle.laws.specs.Sums.and_no_right (ltb 0 (get_or c.lo j 0)) ne) ∙ u j p l (omega arith)
+      k j (Rattle.laws.specs.Sums.and_no_right (ltb 0 (get_or (los c.cuttable) j 0)) ne) ∙ u j p l (omega arith)
 
   -- the numbers of cluster r fit
   pub room_of :
       (limit : ℕ) (k : Counts N) (b : Branches N) (r : ℕ) →
       r < c.n →
       CountedFrom (work_clusters ns ws os c) limit k b (r + 1) →
-      Room c.n c.lo c.host b.count b.lightest k.has_ungated b.ungated (cluster_at c.fixed c.gates r)
+      Room c.n (los c.cuttable) c.host b.count b.lightest (flags k.ungated) (weights k.ungated) (cluster_at c.fixed c.gates r)
   unfolding work_clusters down_of branch_sum flagged_sum
   room_of limit k b r p w =
       let m = sums_bounded (work_clusters ns ws os c) limit (found k b w.ungated_ok w.ungated_weight) ready.sound (r + 1) w.counted r (omega arith) p in
@@ -102,8 +103,8 @@ module _ (ns ws os : List ℕ) {N : ℕ} (c : work.Clusters N) (ready : Ready ns
   -- the arrays before and after a turn at r
   module _
       (limit r : ℕ) (inside : r < c.n) (k : Counts N) (b : Branches N) (cut_any : List Bool) (x : Closing) (y : Climbing)
-      (closes : Closes c.n c.lo c.host b.count b.lightest k.has_ungated b.ungated k.cut_any cut_any (cluster_at c.fixed c.gates r) limit x)
-      (climbs : ClimbsAt ns ws os r (get_or c.lo r 0) (get_or c.hi r 0) limit x y)
+      (closes : Closes c.n (los c.cuttable) c.host b.count b.lightest (flags k.ungated) (weights k.ungated) k.cut_any cut_any (cluster_at c.fixed c.gates r) limit x)
+      (climbs : ClimbsAt ns ws os r (get_or (los c.cuttable) r 0) (get_or (his c.cuttable) r 0) limit x y)
       (entries : Entries r k b)
       (w : CountedFrom (work_clusters ns ws os c) limit k b (r + 1)) where
     old : Down
@@ -115,7 +116,7 @@ module _ (ns ws os : List ℕ) {N : ℕ} (c : work.Clusters N) (ready : Ready ns
           cut_any = cut_any;
           any_ok = set k.any_ok r (any_ok x.options);
           any_weight = set k.any_weight r (any_weight x.options);
-          has_ungated = set k.has_ungated r (is_some y.ungated);
+          ungated = set k.ungated r y.ungated;
           near = set k.near r (unwrap_or y.near 0);
           fewest = set k.fewest r x.fewest;
         }
@@ -125,14 +126,13 @@ module _ (ns ws os : List ℕ) {N : ℕ} (c : work.Clusters N) (ready : Ready ns
         record {
           count = set b.count r y.count;
           lightest = set b.lightest r y.lightest;
-          ungated = set b.ungated r (unwrap_or y.ungated 0);
         }
 
     new : Down
     new = found counts_after branches_after (put w.ungated_ok r (ungated_ok x.options)) (put w.ungated_weight r (ungated_weight x.options))
 
     same_here :
-        SameCluster (branches_of c.n c.lo c.host (cluster_at c.fixed c.gates r)) (work_clusters ns ws os c) (closing_of cut_any b.count b.lightest k.has_ungated b.ungated x) new r
+        SameCluster (branches_of c.n (los c.cuttable) c.host (cluster_at c.fixed c.gates r)) (work_clusters ns ws os c) (closing_of cut_any b.count b.lightest (flags k.ungated) (weights k.ungated) x) new r
     unfolding new work_clusters down_of
     same_here =
         record {
@@ -143,8 +143,8 @@ module _ (ns ws os : List ℕ) {N : ℕ} (c : work.Clusters N) (ready : Ready ns
           cut_any = λ j p h. refl;
           count = λ j p h. get_or-set_other b.count r j y.count 0 (λ z. let q = hung-higher r j p h in omega arith);
           lightest = λ j p h. get_or-set_other b.lightest r j y.lightest 0 (λ z. let q = hung-higher r j p h in omega arith);
-          has_ungated = λ j p h. get_or-set_other k.has_ungated r j (is_some y.ungated) false (λ z. let q = hung-higher r j p h in omega arith);
-          ungated = λ j p h. get_or-set_other b.ungated r j (unwrap_or y.ungated 0) 0 (λ z. let q = hung-higher r j p h in omega arith);
+          has_ungated = λ j p h. mapped_other is_some k.ungated r j y.ungated false (λ z. let q = hung-higher r j p h in omega arith);
+          ungated = λ j p h. mapped_other (λ (o : Option ℕ). unwrap_or o 0) k.ungated r j y.ungated 0 (λ z. let q = hung-higher r j p h in omega arith);
           fewest = get_or-set_same k.fewest r x.fewest 0 entries.fewest;
           any_ok = get_or-set_same k.any_ok r (any_ok x.options) false entries.any_ok;
           any_weight = get_or-set_same k.any_weight r (any_weight x.options) 0 entries.any_weight;
@@ -152,7 +152,7 @@ module _ (ns ws os : List ℕ) {N : ℕ} (c : work.Clusters N) (ready : Ready ns
           ungated_weight = put_same w.ungated_weight r (ungated_weight x.options);
         }
 
-    same-wire : SameBranch (wire_of ns ws os (get_or c.lo r 0) (get_or c.hi r 0)) (work_clusters ns ws os c) (climbing_of x y) new r
+    same-wire : SameBranch (wire_of ns ws os (get_or (los c.cuttable) r 0) (get_or (his c.cuttable) r 0)) (work_clusters ns ws os c) (climbing_of x y) new r
     unfolding new work_clusters down_of
     same-wire =
         record {
@@ -166,8 +166,8 @@ module _ (ns ws os : List ℕ) {N : ℕ} (c : work.Clusters N) (ready : Ready ns
           ungated_weight = put_same w.ungated_weight r (ungated_weight x.options);
           count = get_or-set_same b.count r y.count 0 entries.count;
           lightest = get_or-set_same b.lightest r y.lightest 0 entries.lightest;
-          has_ungated = get_or-set_same k.has_ungated r (is_some y.ungated) false entries.has_ungated;
-          ungated = get_or-set_same b.ungated r (unwrap_or y.ungated 0) 0 entries.ungated;
+          has_ungated = mapped_same is_some k.ungated r y.ungated false entries.ungated;
+          ungated = mapped_same (λ (o : Option ℕ). unwrap_or o 0) k.ungated r y.ungated 0 entries.ungated;
           near = get_or-set_same k.near r (unwrap_or y.near 0) 0 entries.near;
         }
 
@@ -185,15 +185,15 @@ module _ (ns ws os : List ℕ) {N : ℕ} (c : work.Clusters N) (ready : Ready ns
                 ungated_weight = put_other w.ungated_weight r j (ungated_weight x.options) ne;
                 count = get_or-set_other b.count r j y.count 0 ne;
                 lightest = get_or-set_other b.lightest r j y.lightest 0 ne;
-                has_ungated = get_or-set_other k.has_ungated r j (is_some y.ungated) false ne;
-                ungated = get_or-set_other b.ungated r j (unwrap_or y.ungated 0) 0 ne;
+                has_ungated = mapped_other is_some k.ungated r j y.ungated false ne;
+                ungated = mapped_other (λ (o : Option ℕ). unwrap_or o 0) k.ungated r j y.ungated 0 ne;
                 near = get_or-set_other k.near r j (unwrap_or y.near 0) 0 ne;
               };
           closed = closed_same same_here limit closes.closed;
-          climbed = λ l. climbed-same same-wire limit (climbs.climbed (ltb-true 0 (get_or c.lo r 0) l));
+          climbed = λ l. climbed-same same-wire limit (climbs.climbed (ltb-true 0 (get_or (los c.cuttable) r 0) l));
           no_near = λ l.
               get_or-set_same k.near r (unwrap_or y.near 0) 0 entries.near
-              ∙ ap (λ (o : Option ℕ). unwrap_or o 0) (climbs.none (let z = ltb-false 0 (get_or c.lo r 0) l in omega arith));
+              ∙ ap (λ (o : Option ℕ). unwrap_or o 0) (climbs.none (let z = ltb-false 0 (get_or (los c.cuttable) r 0) l in omega arith));
         }
 
     pub counted-turn : CountedFrom (work_clusters ns ws os c) limit counts_after branches_after r

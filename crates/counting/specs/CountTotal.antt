@@ -6,6 +6,7 @@ use Rattle.laws.specs.Sum.{χ, sum}
 use Rattle.laws.specs.Sums.{sum-next, sum_next-≤}
 use Rattle.cuts.specs.Passes.{total_fewest}
 use Rattle.cuts.specs.Bounds.{total-≤}
+use Rattle.clusters.specs.Positions.{los}
 use Rattle.clusters.specs.Arrays.{down_of}
 use Rattle.clusters.specs.declared.work.Clusters as work
 use Rattle.counting.specs.declared.work.Counts.{Counts}
@@ -42,6 +43,6 @@ pub roots_few :
     Ready ns ws os c →
     (limit : ℕ) (k : Counts N) (b : Branches N) →
     CountedFrom (work_clusters ns ws os c) limit k b 0 →
-    root_sum c.n c.lo k.fewest ≤ 2 * c.n
+    root_sum c.n (los c.cuttable) k.fewest ≤ 2 * c.n
 unfolding root_sum total_fewest work_clusters down_of
 roots_few ns ws os c ready limit k b w = total-≤ (work_clusters ns ws os c) limit (found k b w.ungated_ok w.ungated_weight) ready.sound w.counted

@@ -1,3 +1,4 @@
+pub mod Optional
 pub mod Close
 pub mod CloseSums
 pub mod CloseCutting

@@ -1,11 +1,13 @@
 // Climbing a branch's wire in the pass down: what the branch then adds to its host, with a jumper of its own where it must.
 ghost use Rattle.std.specs.Prelude.{◌+◌, ◌<◌, ◌≤◌};
+ghost use Rattle.clusters.specs.Positions.{lo_of, hi_of};
 ghost use Rattle.clusters.specs.Stretch.{stretch_weight};
 ghost use Rattle.counting.specs.Close.{any_weight};
 ghost use Rattle.counting.specs.Climb.{Branch, LastWithin, Climbs, ClimbsAt, Closable};
 
 use crate::close::{Closing, Options};
 use clusters::stretch::{stretch_weight, weight_of_step};
+use clusters::work::Cuttable;
 use points::highest_cuttable;
 
 // What climbing a branch's wire finds: the fewest points below and on it; the least weight that it then adds to its host; the least without a gate, if that can be had;
@@ -24,17 +26,17 @@ fn last_within(
     wires: &[u8],
     obstacles: &[u8],
     i: usize,
-    lo: u64,
-    hi: u64,
+    ends: Cuttable,
     weight: u64,
     limit: u64,
 ) -> u64
-    requires branch { Branch nodes.now wires.now obstacles.now i lo hi }
-    requires weight_le_limit { (weight ≤ limit) × (limit < weight + stretch_weight wires.now i lo hi) }
-    ensures { LastWithin nodes.now wires.now obstacles.now i lo hi weight limit result }
+    requires branch { Branch nodes.now wires.now obstacles.now i ends.lo ends.hi }
+    requires weight_le_limit { (weight ≤ limit) × (limit < weight + stretch_weight wires.now i ends.lo ends.hi) }
+    ensures { LastWithin nodes.now wires.now obstacles.now i ends.lo ends.hi weight limit result }
 {
     let steps = (limit - weight) / weight_of_step(wires, i);
-    u64::from(highest_cuttable(nodes, wires, obstacles, i, (lo + steps) as u32).unwrap())
+    let last = (u64::from(ends.lo) + steps) as u32;
+    u64::from(highest_cuttable(nodes, wires, obstacles, i, last).unwrap())
 }
 
 // Climbs the wire of branch i, whose cluster is closed.
@@ -43,19 +45,19 @@ fn climb(
     wires: &[u8],
     obstacles: &[u8],
     i: usize,
-    lo: u64,
-    hi: u64,
+    ends: Cuttable,
     x: Closing,
     limit: u64,
 ) -> Climbing
-    requires branch { Branch nodes.now wires.now obstacles.now i lo hi }
+    requires branch { Branch nodes.now wires.now obstacles.now i ends.lo ends.hi }
     requires closable { Closable limit x }
-    ensures { Climbs nodes.now wires.now obstacles.now i lo hi limit x result }
+    ensures { Climbs nodes.now wires.now obstacles.now i ends.lo ends.hi limit x result }
 {
-    let span = stretch_weight(wires, i, lo, hi);
+    let hi = u64::from(ends.hi);
+    let span = stretch_weight(wires, i, u64::from(ends.lo), hi);
     match x.options {
         Options::Any(weight) if limit < weight + span => {
-            let near = last_within(nodes, wires, obstacles, i, lo, hi, weight, limit);
+            let near = last_within(nodes, wires, obstacles, i, ends, weight, limit);
             let rest = stretch_weight(wires, i, near, hi);
             Climbing {
                 count: x.fewest + 1,
@@ -89,28 +91,27 @@ fn climb(
     }
 }
 
-// Climbs wire i, if it has a point that may be cut; lo is 0 if it has none.
+// Climbs wire i, if it has a point that may be cut.
 pub fn climb_at(
     nodes: &[u8],
     wires: &[u8],
     obstacles: &[u8],
     i: usize,
-    lo: u64,
-    hi: u64,
+    cuttable: Option<Cuttable>,
     x: Closing,
     limit: u64,
 ) -> Climbing
-    requires branch { 0 < lo → Branch nodes.now wires.now obstacles.now i lo hi }
+    requires branch { 0 < lo_of cuttable → Branch nodes.now wires.now obstacles.now i (lo_of cuttable) (hi_of cuttable) }
     requires closable { Closable limit x }
-    ensures { ClimbsAt nodes.now wires.now obstacles.now i lo hi limit x result }
+    ensures { ClimbsAt nodes.now wires.now obstacles.now i (lo_of cuttable) (hi_of cuttable) limit x result }
 {
-    if 0 < lo {
-        return climb(nodes, wires, obstacles, i, lo, hi, x, limit);
-    }
-    Climbing {
-        count: 0,
-        lightest: 0,
-        ungated: None,
-        near: None,
+    match cuttable {
+        Some(ends) => climb(nodes, wires, obstacles, i, ends, x, limit),
+        None => Climbing {
+            count: 0,
+            lightest: 0,
+            ungated: None,
+            near: None,
+        },
     }
 }

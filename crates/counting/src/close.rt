@@ -2,6 +2,8 @@
 // A cluster has two options. The any-option cuts the heaviest branches until the weight is within the limit; it is not there if the fixed weight alone is over the limit.
 // The ungated option cuts every branch that cannot come without a gate, and may then weigh anything; it is not there if the cluster has a gate.
 ghost use Rattle.std.specs.Prelude.{◌≡◌, ◌||◌, ◌+◌, ◌<◌, ◌≤◌, ◌^◌, get_or, ltb};
+ghost use Rattle.clusters.specs.Positions.{los};
+ghost use Rattle.counting.specs.Optional.{flags, weights};
 ghost use Rattle.counting.specs.Close.{hung, HungAbove, NoneCut, branch_sum, flagged_sum, clear_count, heavier_than, HeaviestBranch, Cutting, Room, cluster_at, any_ok, any_weight, only_any, only_ungated, Compared, Closes};
 
 use crate::work::Branches;
@@ -14,12 +16,12 @@ struct Choice {
     weight: u64,
 }
 
-// Branch j hangs on cluster r. An entry of lo is 0 where the wire has no point that may be cut.
+// Branch j hangs on cluster r.
 fn hangs<const N: usize>(c: &Clusters<N>, r: usize, j: usize) -> bool
     requires { j < N }
-    ensures { result ≡ hung c.now.lo c.now.host r j }
+    ensures { result ≡ hung (los c.now.cuttable) c.now.host r j }
 {
-    c.host[j] == r && 0 < c.lo[j]
+    c.host[j] == r && c.cuttable[j].is_some()
 }
 
 // What the branches of a cluster add up to: the points below them; the least weight that they add; the weight of those that can come without a gate, and how many the others are.
@@ -35,36 +37,35 @@ struct Sums {
 fn sum_branches<const N: usize>(
     c: &Clusters<N>,
     b: &Branches<N>,
-    has_ungated: &[bool; N],
+    ungated: &[Option<u64>; N],
     r: usize,
 ) -> Sums
-    requires count_bound { (branch_sum c.now.n c.now.lo c.now.host r b.now.count < 2 ^ 64) × (branch_sum c.now.n c.now.lo c.now.host r b.now.lightest < 2 ^ 64) × (flagged_sum c.now.n c.now.lo c.now.host r has_ungated.now b.now.ungated < 2 ^ 64) }
-    requires r_lt_n { (r < c.now.n) × HungAbove c.now.lo c.now.host r }
-    ensures { (result.count ≡ branch_sum c.now.n c.now.lo c.now.host r b.now.count)
-        × (result.lightest ≡ branch_sum c.now.n c.now.lo c.now.host r b.now.lightest)
-        × (result.ungated ≡ flagged_sum c.now.n c.now.lo c.now.host r has_ungated.now b.now.ungated)
-        × (result.gated ≡ clear_count c.now.n c.now.lo c.now.host r has_ungated.now)
+    requires count_bound { (branch_sum c.now.n (los c.now.cuttable) c.now.host r b.now.count < 2 ^ 64) × (branch_sum c.now.n (los c.now.cuttable) c.now.host r b.now.lightest < 2 ^ 64) × (flagged_sum c.now.n (los c.now.cuttable) c.now.host r (flags ungated.now) (weights ungated.now) < 2 ^ 64) }
+    requires r_lt_n { (r < c.now.n) × HungAbove (los c.now.cuttable) c.now.host r }
+    ensures { (result.count ≡ branch_sum c.now.n (los c.now.cuttable) c.now.host r b.now.count)
+        × (result.lightest ≡ branch_sum c.now.n (los c.now.cuttable) c.now.host r b.now.lightest)
+        × (result.ungated ≡ flagged_sum c.now.n (los c.now.cuttable) c.now.host r (flags ungated.now) (weights ungated.now))
+        × (result.gated ≡ clear_count c.now.n (los c.now.cuttable) c.now.host r (flags ungated.now))
         × (result.gated ≤ c.now.n) }
 {
     let mut count = 0;
     let mut lightest = 0;
-    let mut ungated = 0;
+    let mut free = 0;
     let mut gated = 0;
     for j in r + 1..c.n {
         if hangs(c, r, j) {
             count += b.count[j];
             lightest += b.lightest[j];
-            if has_ungated[j] {
-                ungated += b.ungated[j];
-            } else {
-                gated += 1;
+            match ungated[j] {
+                Some(weight) => free += weight,
+                None => gated += 1,
             }
         }
     }
     Sums {
         count,
         lightest,
-        ungated,
+        ungated: free,
         gated,
     }
 }
@@ -79,7 +80,7 @@ fn heavier<const N: usize>(
     j: usize,
 ) -> bool
     requires { j < N }
-    ensures { result ≡ heavier_than c.now.lo c.now.host b.now.lightest cut_any.now r weight j }
+    ensures { result ≡ heavier_than (los c.now.cuttable) c.now.host b.now.lightest cut_any.now r weight j }
 {
     hangs(c, r, j) && !cut_any[j] && weight < b.lightest[j]
 }
@@ -91,8 +92,8 @@ fn heaviest<const N: usize>(
     cut_any: &[bool; N],
     r: usize,
 ) -> Option<usize>
-    requires r_lt_n { (r < c.now.n) × HungAbove c.now.lo c.now.host r }
-    ensures { HeaviestBranch c.now.n c.now.lo c.now.host b.now.lightest cut_any.now r result }
+    requires r_lt_n { (r < c.now.n) × HungAbove (los c.now.cuttable) c.now.host r }
+    ensures { HeaviestBranch c.now.n (los c.now.cuttable) c.now.host b.now.lightest cut_any.now r result }
 {
     let mut at = None;
     let mut weight = 0;
@@ -114,10 +115,10 @@ fn cut_heaviest<const N: usize>(
     branches: u64,
     limit: u64,
 ) -> Choice
-    requires fixed_le_limit { (get_or c.now.fixed r 0 ≤ limit) × (get_or c.now.fixed r 0 + branch_sum c.now.n c.now.lo c.now.host r b.now.lightest < 2 ^ 64) × (branches ≡ branch_sum c.now.n c.now.lo c.now.host r b.now.lightest) }
-    requires none_cut { NoneCut c.now.n c.now.lo c.now.host cut_any.old r }
-    requires r_lt_n { (r < c.now.n) × HungAbove c.now.lo c.now.host r }
-    ensures { Cutting c.now.n c.now.lo c.now.host b.now.lightest cut_any.old cut_any.new r (get_or c.now.fixed r 0) limit result.cuts result.weight
+    requires fixed_le_limit { (get_or c.now.fixed r 0 ≤ limit) × (get_or c.now.fixed r 0 + branch_sum c.now.n (los c.now.cuttable) c.now.host r b.now.lightest < 2 ^ 64) × (branches ≡ branch_sum c.now.n (los c.now.cuttable) c.now.host r b.now.lightest) }
+    requires none_cut { NoneCut c.now.n (los c.now.cuttable) c.now.host cut_any.old r }
+    requires r_lt_n { (r < c.now.n) × HungAbove (los c.now.cuttable) c.now.host r }
+    ensures { Cutting c.now.n (los c.now.cuttable) c.now.host b.now.lightest cut_any.old cut_any.new r (get_or c.now.fixed r 0) limit result.cuts result.weight
         × (result.weight ≤ limit) }
 {
     let mut left = c.fixed[r] + branches;
@@ -197,28 +198,28 @@ fn compare(below: u64, any: Choice, ungated: Choice, gates: u64) -> Closing
 pub fn close<const N: usize>(
     c: &Clusters<N>,
     b: &Branches<N>,
-    has_ungated: &[bool; N],
+    ungated: &[Option<u64>; N],
     cut_any: &mut [bool; N],
     r: usize,
     limit: u64,
 ) -> Closing
-    requires room { Room c.now.n c.now.lo c.now.host b.now.count b.now.lightest has_ungated.now b.now.ungated (cluster_at c.now.fixed c.now.gates r) }
-    requires none_cut { NoneCut c.now.n c.now.lo c.now.host cut_any.old r }
-    requires r_lt_n { (r < c.now.n) × HungAbove c.now.lo c.now.host r }
+    requires room { Room c.now.n (los c.now.cuttable) c.now.host b.now.count b.now.lightest (flags ungated.now) (weights ungated.now) (cluster_at c.now.fixed c.now.gates r) }
+    requires none_cut { NoneCut c.now.n (los c.now.cuttable) c.now.host cut_any.old r }
+    requires r_lt_n { (r < c.now.n) × HungAbove (los c.now.cuttable) c.now.host r }
     requires fixed_le_limit { 0 < get_or c.now.gates r 0 → get_or c.now.fixed r 0 ≤ limit }
-    ensures { Closes c.now.n c.now.lo c.now.host b.now.count b.now.lightest has_ungated.now b.now.ungated cut_any.old cut_any.new (cluster_at c.now.fixed c.now.gates r) limit result }
+    ensures { Closes c.now.n (los c.now.cuttable) c.now.host b.now.count b.now.lightest (flags ungated.now) (weights ungated.now) cut_any.old cut_any.new (cluster_at c.now.fixed c.now.gates r) limit result }
 {
-    let sums = sum_branches(c, b, has_ungated, r);
-    let ungated = Choice {
+    let sums = sum_branches(c, b, ungated, r);
+    let bare = Choice {
         cuts: sums.gated,
         weight: c.fixed[r] + sums.ungated,
     };
     if limit < c.fixed[r] {
         return Closing {
-            fewest: sums.count + ungated.cuts,
-            options: Options::Ungated(ungated.weight),
+            fewest: sums.count + bare.cuts,
+            options: Options::Ungated(bare.weight),
         };
     }
     let any = cut_heaviest(c, b, cut_any, r, sums.lightest, limit);
-    compare(sums.count, any, ungated, c.gates[r])
+    compare(sums.count, any, bare, c.gates[r])
 }

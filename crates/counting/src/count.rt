@@ -1,5 +1,6 @@
 // The pass down of repair: from high numbers to low, each cluster is closed and its wire climbed.
 ghost use Rattle.std.specs.Prelude.{◌≡◌, false, ℕ, ◌<◌, ◌^◌, get_or};
+ghost use Rattle.clusters.specs.Positions.{los};
 ghost use Rattle.counting.specs.Count.{work_clusters, Ready, NoneHopeless, CountedFrom, CountedAll, root_sum};
 
 use crate::climb::climb_at;
@@ -9,12 +10,12 @@ use clusters::work::Clusters;
 
 // The points found: the sum over the nodes that are no branch. Among these only the lowest node of a component has points.
 fn total_points<const N: usize>(c: &Clusters<N>, fewest: &[u64; N]) -> u64
-    requires { root_sum c.now.n c.now.lo fewest.now < 2 ^ 64 }
-    ensures { result ≡ root_sum c.now.n c.now.lo fewest.now }
+    requires { root_sum c.now.n (los c.now.cuttable) fewest.now < 2 ^ 64 }
+    ensures { result ≡ root_sum c.now.n (los c.now.cuttable) fewest.now }
 {
     let mut sum = 0;
     for r in 0..c.n {
-        if c.lo[r] == 0 {
+        if c.cuttable[r].is_none() {
             sum += fewest[r];
         }
     }
@@ -37,15 +38,14 @@ fn count_clusters<const N: usize>(
     ensures { CountedFrom (work_clusters nodes.now wires.now obstacles.now c.now) limit k.new b.new 0 }
 {
     for r in (0..c.n).rev() {
-        let x = close(c, b, &k.has_ungated, &mut k.cut_any, r, limit);
+        let x = close(c, b, &k.ungated, &mut k.cut_any, r, limit);
         k.fewest[r] = x.fewest;
         k.any_ok[r] = x.options.has_any();
         k.any_weight[r] = x.options.any_weight();
-        let y = climb_at(nodes, wires, obstacles, r, c.lo[r], c.hi[r], x, limit);
+        let y = climb_at(nodes, wires, obstacles, r, c.cuttable[r], x, limit);
         b.count[r] = y.count;
         b.lightest[r] = y.lightest;
-        k.has_ungated[r] = y.ungated.is_some();
-        b.ungated[r] = y.ungated.unwrap_or(0);
+        k.ungated[r] = y.ungated;
         k.near[r] = y.near.unwrap_or(0);
     }
 }
@@ -67,7 +67,6 @@ pub fn count_pass<const N: usize>(
     let mut b = Branches {
         count: [0; N],
         lightest: [0; N],
-        ungated: [0; N],
     };
     k.cut_any.fill(false);
     count_clusters(nodes, wires, obstacles, c, limit, k, &mut b);

@@ -8,9 +8,9 @@ pub struct Counts<const N: usize> {
     // for each cluster, whether the any-option reaches the fewest points, and the weight that they leave
     pub any_ok: [bool; N],
     pub any_weight: [u64; N],
-    // branches that can come without a gate
-    pub has_ungated: [bool; N],
-    // the position of a branch's own jumper, 0 for none: an Option of it would take twice the memory
+    // the least weight that a branch adds to its host without a gate, if that can be had
+    pub ungated: [Option<u64>; N],
+    // the position of a branch's own jumper, 0 for none
     pub near: [u64; N],
     // for each cluster, the fewest points below it
     pub fewest: [u64; N],
@@ -22,7 +22,7 @@ impl<const N: usize> Counts<N> {
             cut_any: [false; N],
             any_ok: [false; N],
             any_weight: [0; N],
-            has_ungated: [false; N],
+            ungated: [None; N],
             near: [0; N],
             fewest: [0; N],
         }
@@ -34,7 +34,6 @@ impl<const N: usize> Counts<N> {
 pub struct Branches<const N: usize> {
     // the fewest points below and on a branch's wire
     pub count: [u64; N],
-    // the least weight that a branch adds to its host; the least without a gate, 0 where it cannot come without one
+    // the least weight that a branch adds to its host
     pub lightest: [u64; N],
-    pub ungated: [u64; N],
 }

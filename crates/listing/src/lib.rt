@@ -1,12 +1,14 @@
 // The jumper list of the chosen points.
 #![tactic(auto)]
 
-ghost use Rattle.std.specs.Prelude.{◌≡◌, ◌*◌, ◌<◌, ◌≤◌, length};
+ghost use Rattle.std.specs.Prelude.{◌≡◌, ◌*◌, ◌<◌, ◌≤◌, length, get_or};
 ghost use Rattle.laws.specs.Lists.{over};
 ghost use Rattle.net.specs.Layout.{entry_bytes};
 ghost use Rattle.net.specs.Limits.{length_bound};
+ghost use Rattle.clusters.specs.Positions.{his};
 ghost use Rattle.listing.specs.Listing.{entry, wire_entries, wire_count, list_of, count_of, Writable};
 
+use clusters::work::Cuttable;
 use net::layout::ENTRY_BYTES;
 
 // An entry at the start of the buffer's remainder.
@@ -19,7 +21,7 @@ fn write_entry(wire: u8, position: u16, rest: &mut [u8])
 }
 
 // Writes the entries of one wire, where near is 0 if it has no jumper there, at the start of the buffer's remainder, and answers how many.
-fn write_wire_entries(wire: u8, near: u64, hi: u64, cut_high: bool, rest: &mut [u8]) -> usize
+fn write_wire_entries(wire: u8, near: u64, hi: u32, cut_high: bool, rest: &mut [u8]) -> usize
     requires { (near < length_bound) × (hi < length_bound) × (entry_bytes * wire_count near cut_high ≤ length rest.old) }
     ensures { (result ≡ wire_count near cut_high) × (rest.new ≡ over (wire_entries wire near hi cut_high) rest.old) }
 {
@@ -35,17 +37,32 @@ fn write_wire_entries(wire: u8, near: u64, hi: u64, cut_high: bool, rest: &mut [
     written
 }
 
+// The highest position of wire r that may be cut, 0 where there is none.
+fn highest(cuttable: &[Option<Cuttable>], r: usize) -> u32
+    requires { r < length cuttable.now }
+    ensures { result ≡ get_or (his cuttable.now) r 0 }
+{
+    cuttable[r].map_or(0, |ends| ends.hi)
+}
+
 // Writes the list at the start of out, and answers how many entries it has.
-pub fn write_list(n: usize, hi: &[u64], near: &[u64], cut_high: &[bool], out: &mut [u8]) -> usize
-    requires writable { Writable n hi.now near.now cut_high.now }
+pub fn write_list(
+    n: usize,
+    cuttable: &[Option<Cuttable>],
+    near: &[u64],
+    cut_high: &[bool],
+    out: &mut [u8],
+) -> usize
+    requires writable { Writable n (his cuttable.now) near.now cut_high.now }
     requires cut_high_in_bounds { entry_bytes * count_of n near.now cut_high.now ≤ length out.old }
     ensures { (result ≡ count_of n near.now cut_high.now)
-        × (out.new ≡ over (list_of n hi.now near.now cut_high.now) out.old) }
+        × (out.new ≡ over (list_of n (his cuttable.now) near.now cut_high.now) out.old) }
 {
     let mut count = 0;
     for r in 0..n {
         let rest = &mut out[ENTRY_BYTES * count..];
-        count += write_wire_entries(r as u8, near[r], hi[r], cut_high[r], rest);
+        let hi = highest(cuttable, r);
+        count += write_wire_entries(r as u8, near[r], hi, cut_high[r], rest);
     }
     count
 }

@@ -1,7 +1,7 @@
 // Reads stage, limit and a net file from standard input, repairs the net and prints the jumpers.
 #![tactic(auto)]
 
-ghost use Rattle.std.specs.Prelude.{◌≡◌, ℕ, ◌*◌, ◌≤◌, List, length, take, IfOk, IfSome, OnOk};
+ghost use Rattle.std.specs.Prelude.{ℕ, ◌*◌, ◌≤◌, List, length, take, IfOk, IfSome, OnOk};
 ghost use Rattle.std.specs.Io.KnownBytes.{Appends};
 ghost use Rattle.net.specs.Layout.{entry_bytes};
 ghost use Rattle.net.specs.Numbers.{answered};

@@ -32,11 +32,13 @@ use Rattle.cuts.specs.BridgeFits.{sound_of_fits}
 use Rattle.cuts.specs.BridgeRun.{hopeless-none}
 use Rattle.clusters.specs.Arrays.{clusters_of, down_of, up_of}
 use Rattle.clusters.specs.declared.work.Clusters.{Clusters}
+use Rattle.clusters.specs.Positions.{los, his}
 use Rattle.clusters.specs.FirstPasses.{Clustered}
 use Rattle.clusters.specs.Hopeless.{any_hopeless}
 use Rattle.clusters.specs.HopelessLaws.{some-hopeless}
 use Rattle.counting.specs.Climb.{open_at}
 use Rattle.counting.specs.declared.work.Counts.{Counts}
+use Rattle.counting.specs.Optional.{flags, weights}
 use Rattle.counting.specs.Count.{work_clusters, Ready, found, CountedAll, root_sum}
 use Rattle.choice.specs.Choose.{cut_here, any_here, Chooses, Choosable}
 use Rattle.choice.specs.ChooseLaws.{chooses_more, chosen_of}
@@ -73,7 +75,7 @@ record Options (ws : List ℕ) {N : ℕ} (c : Clusters N) (d : Counts N) (limit 
 -- there are always some
 options :
     (ws : List ℕ) {N : ℕ} (c : Clusters N) (d : Counts N) (limit : ℕ) →
-    ((r : ℕ) → r < c.n → 0 < get_or c.lo r 0 → get_or c.host r 0 < r) →
+    ((r : ℕ) → r < c.n → 0 < get_or (los c.cuttable) r 0 → get_or c.host r 0 < r) →
     (i : ℕ) → i ≤ c.n → Options ws c d limit i
 options ws c d limit below zero p =
     record {
@@ -103,15 +105,15 @@ module _ (ns ws os : List ℕ) (k : ℕ) (right : NetRight newest ns ws os) {N :
 
   -- the clusters of the net, and those of the work arrays, of m nodes
   abbrev net : cuts.Clusters
-  net = clusters_of (stage_of newest ns ws os k) c.lo c.hi c.host c.fixed c.gates
+  net = clusters_of (stage_of newest ns ws os k) (los c.cuttable) (his c.cuttable) c.host c.fixed c.gates
 
   abbrev work : ℕ → cuts.Clusters
   work m =
       record {
         nodes = m;
-        cuttable = λ i. ltb 0 (get_or c.lo i 0);
-        lo = λ i. get_or c.lo i 0;
-        hi = λ i. get_or c.hi i 0;
+        cuttable = λ i. ltb 0 (get_or (los c.cuttable) i 0);
+        lo = λ i. get_or (los c.cuttable) i 0;
+        hi = λ i. get_or (his c.cuttable) i 0;
         free = λ i t. open_at ns ws os i t;
         factor = λ i. wire_factor ws i;
         host = λ i. get_or c.host i 0;
@@ -120,10 +122,10 @@ module _ (ns ws os : List ℕ) (k : ℕ) (right : NetRight newest ns ws os) {N :
       }
 
   -- a cuttable wire is present, so its free points are its open ones
-  same-free : (j t : ℕ) → j < node_count ns → ltb 0 (get_or c.lo j 0) ≡ true → free_at (stage_of newest ns ws os k) j t ≡ open_at ns ws os j t
+  same-free : (j t : ℕ) → j < node_count ns → ltb 0 (get_or (los c.cuttable) j 0) ≡ true → free_at (stage_of newest ns ws os k) j t ≡ open_at ns ws os j t
   unfolding free_at open_at clusters_of stage_of
   same-free j t p cut =
-      rw (and_left ((stage_of newest ns ws os k).present j) (leb 1 (get_or c.lo j 0) && (ltb (get_or c.lo j 0) (wire_length ns ws j) && not (barred newest ns ws os j (get_or c.lo j 0)))) (first.fits.lo_free j p cut))
+      rw (and_left ((stage_of newest ns ws os k).present j) (leb 1 (get_or (los c.cuttable) j 0) && (ltb (get_or (los c.cuttable) j 0) (wire_length ns ws j) && not (barred newest ns ws os j (get_or (los c.cuttable) j 0)))) (first.fits.lo_free j p cut))
 
   is_sound : Sound net
   is_sound = sound_of_fits (stage_of newest ns ws os k) net (λ i. get_or c.root i 0) (λ i. get_or c.component i 0) is_formed first.fits
@@ -172,10 +174,10 @@ module _ (ns ws os : List ℕ) (k : ℕ) (right : NetRight newest ns ws os) {N :
     choosable_of =
         record {
           stored = λ r p. omega (arith, first.n_is, right.sized.wires_length);
-          below = λ r p q. is_sound.host_below r (omega (arith, first.n_is)) (lt-ltb 0 (get_or c.lo r 0) q);
+          below = λ r p q. is_sound.host_below r (omega (arith, first.n_is)) (lt-ltb 0 (get_or (los c.cuttable) r 0) q);
           ordered = λ r p q.
               let inside : r < node_count ns = omega (arith, first.n_is) in
-              is_sound.lo_least r (get_or c.hi r 0) inside (lt-ltb 0 (get_or c.lo r 0) q) (is_sound.hi_free r inside (lt-ltb 0 (get_or c.lo r 0) q));
+              is_sound.lo_least r (get_or (his c.cuttable) r 0) inside (lt-ltb 0 (get_or (los c.cuttable) r 0) q) (is_sound.hi_free r inside (lt-ltb 0 (get_or (los c.cuttable) r 0) q));
           short = λ r p. first.short r (omega (arith, first.n_is));
           light = λ r p. weight-light r (omega (arith, first.n_is));
         }
@@ -191,21 +193,21 @@ module _ (ns ws os : List ℕ) (k : ℕ) (right : NetRight newest ns ws os) {N :
                 chosen_of ws c d limit (stage_of newest ns ws os k) worked.counted.ungated_ok worked.counted.ungated_weight worked.branches any_mode cut_high r refl (chose r (omega (arith, first.n_is)));
           }
 
-      pub planned : Planned (stage_of newest ns ws os k) limit c.hi d.near cut_high points
+      pub planned : Planned (stage_of newest ns ws os k) limit (his c.cuttable) d.near cut_high points
       unfolding clusters_of stage_of down_of total_fewest root_sum
       planned =
           let b = worked.branches in
           let up = worked.counted in
           record {
-            smallest = smallest_list (stage_of newest ns ws os k) (λ i. get_or c.root i 0) (λ i. get_or c.component i 0) limit c.lo c.hi c.host c.fixed c.gates d.cut_any d.fewest d.any_ok d.any_weight up.ungated_ok up.ungated_weight b.count b.lightest d.has_ungated b.ungated d.near any_mode cut_high is_formed first.fits run first.short;
-            listing = listable (stage_of newest ns ws os k) (λ i. get_or c.root i 0) (λ i. get_or c.component i 0) limit c.lo c.hi c.host c.fixed c.gates d.cut_any d.fewest d.any_ok d.any_weight up.ungated_ok up.ungated_weight b.count b.lightest d.has_ungated b.ungated d.near any_mode cut_high is_formed first.fits run first.short;
+            smallest = smallest_list (stage_of newest ns ws os k) (λ i. get_or c.root i 0) (λ i. get_or c.component i 0) limit (los c.cuttable) (his c.cuttable) c.host c.fixed c.gates d.cut_any d.fewest d.any_ok d.any_weight up.ungated_ok up.ungated_weight b.count b.lightest (flags d.ungated) (weights d.ungated) d.near any_mode cut_high is_formed first.fits run first.short;
+            listing = listable (stage_of newest ns ws os k) (λ i. get_or c.root i 0) (λ i. get_or c.component i 0) limit (los c.cuttable) (his c.cuttable) c.host c.fixed c.gates d.cut_any d.fewest d.any_ok d.any_weight up.ungated_ok up.ungated_weight b.count b.lightest (flags d.ungated) (weights d.ungated) d.near any_mode cut_high is_formed first.fits run first.short;
             points_is =
                 rw first.n_is at worked.points_is
-                ∙ sym (count_is_total (stage_of newest ns ws os k) (λ i. get_or c.root i 0) (λ i. get_or c.component i 0) limit c.lo c.hi c.host c.fixed c.gates d.cut_any d.fewest d.any_ok d.any_weight up.ungated_ok up.ungated_weight b.count b.lightest d.has_ungated b.ungated d.near any_mode cut_high is_formed first.fits run first.short);
+                ∙ sym (count_is_total (stage_of newest ns ws os k) (λ i. get_or c.root i 0) (λ i. get_or c.component i 0) limit (los c.cuttable) (his c.cuttable) c.host c.fixed c.gates d.cut_any d.fewest d.any_ok d.any_weight up.ungated_ok up.ungated_weight b.count b.lightest (flags d.ungated) (weights d.ungated) d.near any_mode cut_high is_formed first.fits run first.short);
           }
 
     -- before the pass up has run: it can choose, so as many points as were counted are the fewest
-    pub planned-some : (cut_high : List Bool) × Planned (stage_of newest ns ws os k) limit c.hi d.near cut_high points
+    pub planned-some : (cut_high : List Bool) × Planned (stage_of newest ns ws os k) limit (his c.cuttable) d.near cut_high points
     planned-some =
         let o = options ws c d limit choosable_of.below c.n (omega arith) in
         (o.cut_high, planned o.any_mode o.cut_high o.chosen)

@@ -84,6 +84,6 @@ pub fn repair_net(net: Net, stage: u8, limit: u64, out: &mut [u8]) -> Result<u64
     }
     let mut cut_high = [false; MOST_NODES];
     choose(net.wires, &clusters, &counts, limit, &mut cut_high);
-    write_list(clusters.n, &clusters.hi, &counts.near, &cut_high, out);
+    write_list(clusters.n, &clusters.cuttable, &counts.near, &cut_high, out);
     Ok(points)
 }

@@ -1,7 +1,7 @@
 // Reads stage, limit and a net file from standard input and prints the piece records of the uncut stage, one a line.
 #![tactic(auto)]
 
-ghost use Rattle.std.specs.Prelude.{◌≡◌, ◌*◌, ◌≤◌, length, take, IfOk, IfSome, OnOk};
+ghost use Rattle.std.specs.Prelude.{◌*◌, ◌≤◌, length, take, IfOk, IfSome, OnOk};
 ghost use Rattle.std.specs.Io.KnownBytes.{Appends};
 ghost use Rattle.net.specs.Layout.{record_bytes};
 ghost use Rattle.net.specs.Numbers.{answered};

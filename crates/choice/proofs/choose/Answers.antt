@@ -1,20 +1,25 @@
 -- `choice::choose` meets its contract: the clusters passed have their options, and what is added now is at the next one.
 -- Assumes nothing.
-use Rattle.std.proofs.Common.{ℕ, Bool, ◌≡◌, ◌<◌, ◌≤◌, ◌+◌, ◌∙◌, get_or, set, length-set, rules, arith}
+use Rattle.std.proofs.Common.{ℕ, Bool, ◌≡◌, ◌<◌, ◌≤◌, ◌+◌, ◌∙◌, ap, get_or, set, length, length-set, rules, arith}
+use Rattle.clusters.specs.Positions.{lo_of, hi_of, los, lo_at, hi_at}
 use Rattle.choice.specs.Choose.{cut_here, any_here, Chooses}
 use Rattle.choice.specs.ChooseLaws.{cut_here-root, any_here-root, cut_here-branch, any_here-branch, chooses_more}
 use Rattle.choice.proofs.choose.Goals as goal
-use Rattle.choice.proofs.choose.Goals.{then-c-r-eq0, else-c-r-eq0}
+use Rattle.choice.proofs.choose.Goals.{in-Some, in_default}
 
 pub fits_whole-fits-requires : goal.fits_whole-fits-requires
 fits_whole-fits-requires g c =
     let r = c.loop-r.r in
     let p = c.loop-r-test.true in
     let known = c.requires.choosable in
-    let branch : 0 < get_or c.args.c.now.lo r 0 = omega arith in
+    let e = c.in-Some.ends in
+    let stored : r < length c.args.c.now.cuttable = omega arith in
+    let lo = lo_at c.args.c.now.cuttable r _ stored ∙ ap lo_of c.in-Some.is in
+    let hi = hi_at c.args.c.now.cuttable r _ stored ∙ ap hi_of c.in-Some.is in
+    let branch : 0 < get_or (los c.args.c.now.cuttable) r 0 = omega (arith, lo, e.positive) in
     let below = known.below r p branch in
-    -- the sizes of what is lent, then the clauses
-    (search rules, (search rules, ((omega arith, omega arith, known.stored r p), (known.ordered r p branch, known.short r p, known.light r p))))
+    -- the size of what is lent, then the clauses
+    (search rules, ((omega arith, omega arith, known.stored r p), (omega (arith, lo, hi, known.ordered r p branch), omega (arith, hi, known.short r p), known.light r p)))
 
 pub loop-r-preserved : goal.loop-r-preserved
 loop-r-preserved g c =
@@ -23,24 +28,28 @@ loop-r-preserved g c =
     let ws = a.wires.now in
     let first = a.c.now in
     let counts = a.k.now in
+    let stored : l.r < length first.cuttable = omega arith in
     let more : (h m : Bool) → h ≡ cut_here first counts l.any_mode l.r → m ≡ any_here ws first counts a.limit l.any_mode h l.r → (j : ℕ) → j < l.r + 1 → Chooses ws first counts a.limit (set l.any_mode l.r m) (set l.cut_high l.r h) j =
     λ h m eh em. chooses_more ws first counts a.limit l.any_mode l.cut_high l.r h m (omega arith) (omega arith) (λ j p. c.requires.choosable.below j (omega arith)) eh em l.invariant.chosen in
-    elim c.if-c-r-eq0.branch [
-      | then-c-r-eq0 w ↦
-          let root : get_or first.lo l.r 0 ≤ 0 = omega arith in
-          rw (w.any_mode-is, w.cut_high-is)
-          (record {
-            long = length-set l.any_mode l.r _ ∙ l.invariant.long;
-            chosen = more _ _ (cut_here-root ws first counts a.limit l.any_mode l.r root) (any_here-root ws first counts a.limit l.any_mode _ l.r root);
-          })
-      | else-c-r-eq0 w ↦
-          let branch : 0 < get_or first.lo l.r 0 = omega arith in
+    elim c.match-c-r.branch [
+      | in-Some w ↦
+          let lo = lo_at first.cuttable l.r _ stored ∙ ap lo_of w.in-Some.is in
+          let hi = hi_at first.cuttable l.r _ stored ∙ ap hi_of w.in-Some.is in
+          let branch : 0 < get_or (los first.cuttable) l.r 0 = omega (arith, lo, w.in-Some.ends.positive) in
           rw (w.any_mode-is, w.cut_high-is)
           (record {
             long = length-set l.any_mode l.r _ ∙ l.invariant.long;
             chosen =
                 more _ _ (cut_here-branch ws first counts a.limit l.any_mode l.r _ branch w.is_cut_high-here.ensures)
-                (any_here-branch ws first counts a.limit l.any_mode _ _ _ l.r branch w.takes_any.ensures w.fits_whole-fits.ensures);
+                (any_here-branch ws first counts a.limit l.any_mode _ _ _ l.r branch w.takes_any.ensures (rw (lo, hi) w.fits_whole-fits.ensures));
+          })
+      | in_default w ↦
+          let lo = lo_at first.cuttable l.r _ stored ∙ ap lo_of w.in_default.is in
+          let root : get_or (los first.cuttable) l.r 0 ≤ 0 = omega (arith, lo) in
+          rw (w.any_mode-is, w.cut_high-is)
+          (record {
+            long = length-set l.any_mode l.r _ ∙ l.invariant.long;
+            chosen = more _ _ (cut_here-root ws first counts a.limit l.any_mode l.r root) (any_here-root ws first counts a.limit l.any_mode _ l.r root);
           })
     ]
 

@@ -5,6 +5,7 @@ use Rattle.laws.specs.Lists.{over, over_lent}
 use Rattle.laws.specs.Sum.{sum}
 use Rattle.laws.specs.Gather.{gather}
 use Rattle.net.specs.Layout.{entry_bytes}
+use Rattle.clusters.specs.Positions.{his}
 use Rattle.listing.specs.Listing.{list_of, wire_count, wire_entries}
 use Rattle.listing.specs.ListingWriting.{length-list_of, list_of-next, count_of-next, room_at}
 use Rattle.listing.proofs.write_list.Goals as goal
@@ -35,7 +36,7 @@ write_wire_entries-count-requires c =
     let l = c.loop-r in
     let q = c.requires.writable in
     let m = room_at a.near.now a.cut_high.now a.n l.r l.count (length l.out) c.loop-r-test.true l.invariant.0 (omega (arith, l.auto.out)) in
-    (q.near_short l.r c.loop-r-test.true, q.hi_short l.r c.loop-r-test.true, search rules)
+    (q.near_short l.r c.loop-r-test.true, omega (arith, c.highest-hi.ensures, q.hi_short l.r c.loop-r-test.true), search rules)
 
 pub loop-r-preserved : goal.loop-r-preserved
 loop-r-preserved c =
@@ -43,13 +44,13 @@ loop-r-preserved c =
     let l = c.loop-r in
     let m = room_at a.near.now a.cut_high.now a.n l.r l.count (length l.out) c.loop-r-test.true l.invariant.0 (omega (arith, l.auto.out)) in
     let e = c.write_wire_entries-count.ensures in
-    let hi = a.hi.now in
+    let hi = his a.cuttable.now in
     let near = a.near.now in
     let cut_high = a.cut_high.now in
     let next = wire_entries l.r (get_or near l.r 0) (get_or hi l.r 0) (get_or cut_high l.r false) in
     let k = length-list_of hi near cut_high l.r in
     let n = count_of-next hi near cut_high l.r in (
       omega arith,
-      over_lent (list_of l.r hi near cut_high) next a.out.now _ _ _ l.invariant.1 (omega arith) (omega arith) e.1
+      over_lent (list_of l.r hi near cut_high) next a.out.now _ _ _ l.invariant.1 (omega arith) (omega arith) (rw c.highest-hi.ensures at e.1)
           ∙ ap (λ (x : List ℕ). over x a.out.now) (sym (list_of-next hi near cut_high l.r)),
     )

@@ -1,16 +1,14 @@
 use Rattle.std.proofs.Common.{arith, take}
-use Rattle.std.proofs.lemmas.Result.{on_ok_weaker}
-use Rattle.console.specs.Counts.{ok-count}
+use Rattle.std.proofs.lemmas.Result.{on_ok_weaker, IfOk-weaker}
 use Rattle.net.specs.Numbers.{answered}
-use Rattle.antenna.specs.Exactly.{list_room}
 use Rattle.repair.specs.Printed.{answer_lines, Printed}
-use Rattle.repair.proofs.Lines.{repaired_lines, read_lines}
+use Rattle.repair.proofs.Lines.{repaired_lines, jumpers-room, read_lines}
 use Rattle.repair.proofs.run.Goals as goal
 
 pub print_answer-requires : goal.print_answer-requires
 print_answer-requires g c =
-    let r = c.antenna_repair-answer in
-    ok-count _ r.result (λ h. let room = list_room r.ensures h in omega (arith, room))
+    let a = c.antenna_repair-answer in
+    IfOk-weaker a.result _ _ (λ n room. omega (arith, room)) (jumpers-room a.result a.ensures)
 
 pub returns : goal.returns
 returns g c =

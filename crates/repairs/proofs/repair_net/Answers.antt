@@ -6,6 +6,8 @@ use Rattle.net.specs.declared.refusal.Refusal.TheVariants.{NoLegalSet, LentBuffe
 use Rattle.net.specs.Answered.{answered_err, answered_ok}
 use Rattle.net.specs.Accepted.{net-right}
 use Rattle.net.specs.Stage.{stage_of}
+use Rattle.std.proofs.lemmas.List.{length-map}
+use Rattle.clusters.specs.Positions.{hi_of}
 use Rattle.clusters.specs.FitsLaws.{wired_of}
 use Rattle.clusters.specs.HopelessLaws.{none-hopeless}
 use Rattle.repairs.specs.Promise.{no_legal_set}
@@ -81,7 +83,7 @@ write_list-requires-clause-writable c =
     let plan = planned a.net.nodes.now a.net.wires.now a.net.obstacles.now a.stage right c.first_passes.new.c first a.limit c.count_pass-points.new.k c.count_pass-points.result c.count_pass-points.ensures c.choose.ensures.0 c.choose.new.cut_high c.choose.ensures.1 in
     record {
       few = omega (arith, first.n_is, right.sized.few_nodes);
-      his = omega (arith, c.first_passes.new.c.few);
+      his = omega (arith, c.first_passes.new.c.few, length-map c.first_passes.new.c.cuttable hi_of);
       nears = omega (arith, c.first_passes.new.c.few);
       cuts = omega (arith, c.first_passes.new.c.few);
       near_short = λ r p. plan.listing.near_short r (omega (arith, first.n_is));

@@ -1,16 +1,14 @@
 use Rattle.std.proofs.Common.{◌≡◌, refl, take, arith}
-use Rattle.std.proofs.lemmas.Result.{on_ok_weaker}
-use Rattle.console.specs.Counts.{ok-count}
+use Rattle.std.proofs.lemmas.Result.{on_ok_weaker, IfOk-weaker}
 use Rattle.net.specs.Numbers.{answered}
-use Rattle.antenna.specs.Room.{record_room}
 use Rattle.report.specs.Printed.{answer_lines, printed}
-use Rattle.report.proofs.Lines.{reported_lines, read_lines}
+use Rattle.report.proofs.Lines.{reported_lines, records-room, read_lines}
 use Rattle.report.proofs.run.Goals as goal
 
 pub print_answer-requires : goal.print_answer-requires
 print_answer-requires g c =
-    let r = c.antenna_report-answer in
-    ok-count _ r.result (λ h. let room = record_room _ _ _ _ (answered r.result) r.ensures.0 h in omega (arith, room))
+    let a = c.antenna_report-answer in
+    IfOk-weaker a.result _ _ (λ n room. omega (arith, room)) (records-room _ _ _ _ a.result a.ensures.0)
 
 pub returns : goal.returns
 returns g c =

@@ -2,6 +2,7 @@
 use Rattle.std.proofs.Common.{ℕ, ◌+◌, ◌≤◌, ◌<◌, arith}
 use Rattle.laws.specs.Numbers.{Bytes}
 use Rattle.net.specs.Limits.{wire_weight_bound}
+use Rattle.clusters.specs.Positions.{los, his}
 use Rattle.clusters.specs.FirstPasses.{Falling, lower_weight, upper_weight}
 use Rattle.clusters.specs.Weights.{lower-small, upper-small, after-second, before-first, before-second}
 use Rattle.clusters.proofs.weights.weigh_clusters.Goals as goal
@@ -15,12 +16,12 @@ overflow_add-fixed c =
     let few = w.few in
     let nodes : Bytes a.nodes.now = λ j. omega (arith, c.type_inv.nodes j) in
     let wires : Bytes a.wires.now = λ j. omega (arith, c.type_inv.wires j) in
-    let x = lower_weight a.nodes.now a.wires.now a.stage a.lo.now in
-    let y = upper_weight a.nodes.now a.wires.now a.lo.now a.hi.now in
+    let x = lower_weight a.nodes.now a.wires.now a.stage (los a.cuttable.now) in
+    let y = upper_weight a.nodes.now a.wires.now (los a.cuttable.now) (his a.cuttable.now) in
     let fx : Falling (l.i + 1) a.root.now = λ j p. c.requires.falling.0 j (omega arith) in
     let fy : Falling (l.i + 1) a.host.now = λ j p. c.requires.falling.1 j (omega arith) in
-    let sx : (j : ℕ) → j < l.i + 1 → x j ≤ wire_weight_bound = λ j p. lower-small a.nodes.now a.wires.now a.lo.now a.hi.now a.stage w nodes wires inside j (omega arith) in
-    let sy : (j : ℕ) → j < l.i + 1 → y j ≤ wire_weight_bound = λ j p. upper-small a.nodes.now a.wires.now a.lo.now a.hi.now a.stage w nodes wires inside j (omega arith) in
+    let sx : (j : ℕ) → j < l.i + 1 → x j ≤ wire_weight_bound = λ j p. lower-small a.nodes.now a.wires.now (los a.cuttable.now) (his a.cuttable.now) a.stage w nodes wires inside j (omega arith) in
+    let sy : (j : ℕ) → j < l.i + 1 → y j ≤ wire_weight_bound = λ j p. upper-small a.nodes.now a.wires.now (los a.cuttable.now) (his a.cuttable.now) a.stage w nodes wires inside j (omega arith) in
     let b = before-first l.i a.root.now a.host.now x y l.fixed (omega arith) fx fy l.invariant wire_weight_bound sx sy in
     let small = sx l.i (omega arith) in
     let e = c.lower_weight.ensures in
@@ -35,12 +36,12 @@ overflow_add-fixed-in-loop-i c =
     let few = w.few in
     let nodes : Bytes a.nodes.now = λ j. omega (arith, c.type_inv.nodes j) in
     let wires : Bytes a.wires.now = λ j. omega (arith, c.type_inv.wires j) in
-    let x = lower_weight a.nodes.now a.wires.now a.stage a.lo.now in
-    let y = upper_weight a.nodes.now a.wires.now a.lo.now a.hi.now in
+    let x = lower_weight a.nodes.now a.wires.now a.stage (los a.cuttable.now) in
+    let y = upper_weight a.nodes.now a.wires.now (los a.cuttable.now) (his a.cuttable.now) in
     let fx : Falling (l.i + 1) a.root.now = λ j p. c.requires.falling.0 j (omega arith) in
     let fy : Falling (l.i + 1) a.host.now = λ j p. c.requires.falling.1 j (omega arith) in
-    let sx : (j : ℕ) → j < l.i + 1 → x j ≤ wire_weight_bound = λ j p. lower-small a.nodes.now a.wires.now a.lo.now a.hi.now a.stage w nodes wires inside j (omega arith) in
-    let sy : (j : ℕ) → j < l.i + 1 → y j ≤ wire_weight_bound = λ j p. upper-small a.nodes.now a.wires.now a.lo.now a.hi.now a.stage w nodes wires inside j (omega arith) in
+    let sx : (j : ℕ) → j < l.i + 1 → x j ≤ wire_weight_bound = λ j p. lower-small a.nodes.now a.wires.now (los a.cuttable.now) (his a.cuttable.now) a.stage w nodes wires inside j (omega arith) in
+    let sy : (j : ℕ) → j < l.i + 1 → y j ≤ wire_weight_bound = λ j p. upper-small a.nodes.now a.wires.now (los a.cuttable.now) (his a.cuttable.now) a.stage w nodes wires inside j (omega arith) in
     let b = before-second l.i a.root.now a.host.now x y l.fixed (omega arith) fx fy l.invariant wire_weight_bound sx sy in
     let small = sy l.i (omega arith) in
     let e = c.upper_weight.ensures in
@@ -53,4 +54,4 @@ loop-i-preserved c =
     let fx : Falling (l.i + 1) a.root.now = λ j p. c.requires.falling.0 j (omega arith) in
     let fy : Falling (l.i + 1) a.host.now = λ j p. c.requires.falling.1 j (omega arith) in
     rw (c.lower_weight.ensures, c.upper_weight.ensures)
-    (after-second l.i a.root.now a.host.now (lower_weight a.nodes.now a.wires.now a.stage a.lo.now) (upper_weight a.nodes.now a.wires.now a.lo.now a.hi.now) l.fixed (omega arith) fx fy l.invariant)
+    (after-second l.i a.root.now a.host.now (lower_weight a.nodes.now a.wires.now a.stage (los a.cuttable.now)) (upper_weight a.nodes.now a.wires.now (los a.cuttable.now) (his a.cuttable.now)) l.fixed (omega arith) fx fy l.invariant)

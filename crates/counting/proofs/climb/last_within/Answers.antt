@@ -9,23 +9,23 @@ use Rattle.counting.proofs.climb.last_within.Goals as goal
 pub weight_of_step-requires : goal.weight_of_step-requires
 weight_of_step-requires c = (c.requires.branch.checked.numbered, c.requires.branch.checked.stored)
 
-pub overflow_add-lo : goal.overflow_add-lo
-overflow_add-lo c =
+pub overflow_add-last : goal.overflow_add-last
+overflow_add-last c =
     let a = c.args in
     let b = c.requires.branch in
     let e = c.weight_of_step.ensures.0 in
-    let inside = steps-inside a.nodes.now a.wires.now a.obstacles.now a.i a.lo a.hi a.weight a.limit b c.requires.weight_le_limit.0 c.requires.weight_le_limit.1 in
-    let high = open_high a.nodes.now a.wires.now a.obstacles.now a.i a.hi b.hi_open in
+    let inside = steps-inside a.nodes.now a.wires.now a.obstacles.now a.i a.ends.lo a.ends.hi a.weight a.limit b c.requires.weight_le_limit.0 c.requires.weight_le_limit.1 in
+    let high = open_high a.nodes.now a.wires.now a.obstacles.now a.i a.ends.hi b.hi_open in
     let small = length-small a.nodes.now a.wires.now a.i (λ k. omega (arith, c.type_inv.nodes k)) b.checked in
     rw e (omega arith)
 
-pub overflow_cast-lo : goal.overflow_cast-lo
-overflow_cast-lo c =
+pub overflow_cast-last : goal.overflow_cast-last
+overflow_cast-last c =
     let a = c.args in
     let b = c.requires.branch in
     let e = c.weight_of_step.ensures.0 in
-    let inside = steps-inside a.nodes.now a.wires.now a.obstacles.now a.i a.lo a.hi a.weight a.limit b c.requires.weight_le_limit.0 c.requires.weight_le_limit.1 in
-    let high = open_high a.nodes.now a.wires.now a.obstacles.now a.i a.hi b.hi_open in
+    let inside = steps-inside a.nodes.now a.wires.now a.obstacles.now a.i a.ends.lo a.ends.hi a.weight a.limit b c.requires.weight_le_limit.0 c.requires.weight_le_limit.1 in
+    let high = open_high a.nodes.now a.wires.now a.obstacles.now a.i a.ends.hi b.hi_open in
     let small = length-small a.nodes.now a.wires.now a.i (λ k. omega (arith, c.type_inv.nodes k)) b.checked in
     rw e (omega arith)
 
@@ -34,8 +34,8 @@ highest_cuttable-requires c =
     let a = c.args in
     let b = c.requires.branch in
     let e = c.weight_of_step.ensures.0 in
-    let inside = steps-inside a.nodes.now a.wires.now a.obstacles.now a.i a.lo a.hi a.weight a.limit b c.requires.weight_le_limit.0 c.requires.weight_le_limit.1 in
-    let high = open_high a.nodes.now a.wires.now a.obstacles.now a.i a.hi b.hi_open in
+    let inside = steps-inside a.nodes.now a.wires.now a.obstacles.now a.i a.ends.lo a.ends.hi a.weight a.limit b c.requires.weight_le_limit.0 c.requires.weight_le_limit.1 in
+    let high = open_high a.nodes.now a.wires.now a.obstacles.now a.i a.ends.hi b.hi_open in
     let small = length-small a.nodes.now a.wires.now a.i (λ k. omega (arith, c.type_inv.nodes k)) b.checked in
     (b.checked, rw e (omega arith))
 
@@ -46,13 +46,13 @@ is-some P (Some x) h = refl
 pub unwrap-requires : goal.unwrap-requires
 unwrap-requires c =
     let a = c.args in
-    is-some (LastWithin a.nodes.now a.wires.now a.obstacles.now a.i a.lo a.hi a.weight a.limit) _
-    (last_within a.nodes.now a.wires.now a.obstacles.now a.i a.lo a.hi a.weight a.limit _ c.requires.branch c.requires.weight_le_limit.0 c.requires.weight_le_limit.1
-    (rw c.weight_of_step.ensures.0 at c.highest_cuttable.ensures))
+    is-some (LastWithin a.nodes.now a.wires.now a.obstacles.now a.i a.ends.lo a.ends.hi a.weight a.limit) _
+    (last_within a.nodes.now a.wires.now a.obstacles.now a.i a.ends.lo a.ends.hi a.weight a.limit _ c.requires.branch c.requires.weight_le_limit.0 c.requires.weight_le_limit.1
+    (rw (c.from.ensures, c.weight_of_step.ensures.0) at c.highest_cuttable.ensures))
 
 pub returns : goal.returns
 returns c =
     let a = c.args in
-    rw c.from.ensures
-    (last_within a.nodes.now a.wires.now a.obstacles.now a.i a.lo a.hi a.weight a.limit (Some c.unwrap.result) c.requires.branch c.requires.weight_le_limit.0 c.requires.weight_le_limit.1
-    (rw (c.weight_of_step.ensures.0, c.unwrap.ensures) at c.highest_cuttable.ensures))
+    rw c.from-2.ensures
+    (last_within a.nodes.now a.wires.now a.obstacles.now a.i a.ends.lo a.ends.hi a.weight a.limit (Some c.unwrap.result) c.requires.branch c.requires.weight_le_limit.0 c.requires.weight_le_limit.1
+    (rw (c.from.ensures, c.weight_of_step.ensures.0, c.unwrap.ensures) at c.highest_cuttable.ensures))

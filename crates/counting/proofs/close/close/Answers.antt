@@ -1,6 +1,8 @@
 -- `counting::close::close` meets its contract: the ungated option alone where the fixed weight passes the limit, else the two compared.
 -- Assumes nothing.
 use Rattle.std.proofs.Common.{refl, inl, arith}
+use Rattle.clusters.specs.Positions.{los}
+use Rattle.counting.specs.Optional.{flags, weights}
 use Rattle.counting.specs.Close.{cluster_at}
 use Rattle.counting.specs.CloseSums.{flagged_few}
 use Rattle.counting.specs.CloseEndings.{no-gate, ends-ungated, ends_compared}
@@ -14,7 +16,7 @@ returns-then-limit-c g c =
       long = refl;
       others = λ j h. refl;
       closed =
-          ends-ungated a.c.now.n a.c.now.lo a.c.now.host a.b.now.count a.b.now.lightest a.has_ungated.now a.b.now.ungated a.cut_any.now a.cut_any.now (cluster_at a.c.now.fixed a.c.now.gates a.r) a.limit
+          ends-ungated a.c.now.n (los a.c.now.cuttable) a.c.now.host a.b.now.count a.b.now.lightest (flags a.ungated.now) (weights a.ungated.now) a.cut_any.now a.cut_any.now (cluster_at a.c.now.fixed a.c.now.gates a.r) a.limit
           _ _ _ sums.0 sums.3 (omega (arith, sums.2)) (no-gate _ _ _ c.requires.fixed_le_limit c.if-limit-c.true) (inl c.if-limit-c.true) _ refl;
     }
 
@@ -23,7 +25,7 @@ compare-requires g c =
     let a = c.args in
     let room = c.requires.room in
     let sums = c.sum_branches-sums.ensures in
-    let few = flagged_few a.c.now.n a.c.now.lo a.c.now.host a.r c.cut_heaviest-any.new.cut_any in
+    let few = flagged_few a.c.now.n (los a.c.now.cuttable) a.c.now.host a.r c.cut_heaviest-any.new.cut_any in
     (omega (arith, room.counts, room.few, sums.0, c.cut_heaviest-any.ensures.0.cuts_is), omega (arith, room.counts, room.few, sums.0, sums.4))
 
 pub returns : goal.returns
@@ -35,6 +37,6 @@ returns g c =
       long = cutting.0.long;
       others = cutting.0.others;
       closed =
-          ends_compared a.c.now.n a.c.now.lo a.c.now.host a.b.now.count a.b.now.lightest a.has_ungated.now a.b.now.ungated a.cut_any.now c.cut_heaviest-any.new.cut_any (cluster_at a.c.now.fixed a.c.now.gates a.r) a.limit
+          ends_compared a.c.now.n (los a.c.now.cuttable) a.c.now.host a.b.now.count a.b.now.lightest (flags a.ungated.now) (weights a.ungated.now) a.cut_any.now c.cut_heaviest-any.new.cut_any (cluster_at a.c.now.fixed a.c.now.gates a.r) a.limit
           _ _ _ sums.0 sums.3 (omega (arith, sums.2)) _ cutting.0 cutting.1 c.compare.ensures;
     }
