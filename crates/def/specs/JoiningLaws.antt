@@ -21,14 +21,14 @@ use Rattle.def.specs.Joining.{Routed, Joined, JoinedOne}
 use Rattle.def.specs.Distinct.{stands-alone}
 
 -- the nodes that the table has
-found-few : (n m : ℕ) → Some m ≡ counted n → (m ≡ n) × (n ≤ most_nodes)
-found-few n m e =
+count-few : (n m : ℕ) → Some m ≡ counted n → (m ≡ n) × (n ≤ most_nodes)
+count-few n m e =
     by (ltb most_nodes n)
     (λ y. let q = rw y at e in cc)
     (λ z. let q = rw z at e in let l = ltb-false most_nodes n z in (cc, l))
 
-found-many : (n : ℕ) → None ≡ counted n → most_nodes < n
-found-many n e = by (ltb most_nodes n) (λ y. ltb-true most_nodes n y) (λ z. let q = rw z at e in cc)
+count-many : (n : ℕ) → None ≡ counted n → most_nodes < n
+count-many n e = by (ltb most_nodes n) (λ y. ltb-true most_nodes n y) (λ z. let q = rw z at e in cc)
 
 pub routed : {text : List ℕ} {place : ℕ} {r : Route} (nodes : Option (Bor (List Node))) → IsRoute text place r
     → (r.count ≡ None → nodes ≡ None)
@@ -41,10 +41,10 @@ routed {text} {place} {r} nodes i none some = counts r.count refl
         record {
           points = i.points;
           few = λ n q. let z : None ≡ Some n = cc (none e) in cc;
-          many = λ q. found-many (length (route_nodes text place)) (sym e ∙ i.count);
+          many = λ q. count-many (length (route_nodes text place)) (sym e ∙ i.count);
         }
     counts (Some m) e =
-        let f = found-few (length (route_nodes text place)) m (sym e ∙ i.count) in
+        let f = count-few (length (route_nodes text place)) m (sym e ∙ i.count) in
         let h = some m e (omega (arith, f)) in
         record {
           points = i.points;

@@ -16,7 +16,7 @@ use net::layout::{FIRST_VERSION, MOST_NODES, NODE_BYTES, WIRE_BYTES};
 use net::refusal::Refusal;
 use net::write::write;
 use routes::Node;
-use routes::reader::route_at;
+use routes::reader::Reader;
 
 pub mod pins;
 pub mod sections;
@@ -38,10 +38,11 @@ pub fn def(
 ) -> Result<Written, Refusal>
     ensures { (written result ≡ def_answer text.now place pins.now obstacles.now (length out.old)) × (out.new ≡ def_buffer text.now place pins.now obstacles.now out.old) }
 {
-    let route = route_at(text, place)?;
+    let reader = Reader { text, place };
+    let route = reader.route()?;
     let nodes = route.found();
     let mut flags = [0; MOST_NODES];
-    join_pins(text, place, route.points, nodes, pins, &mut flags)?;
+    join_pins(reader, route.points, nodes, pins, &mut flags)?;
     let Some(nodes) = nodes else {
         return Err(Refusal::NodeSection);
     };

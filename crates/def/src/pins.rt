@@ -9,7 +9,7 @@ ghost use Rattle.def.specs.Joining.{Routed, Joined, JoinedOne};
 use net::fields::u16_at;
 use net::refusal::Refusal;
 use routes::Node;
-use routes::reader::read_again_at;
+use routes::reader::Reader;
 use routes::table::node_on;
 
 // Bytes of a pin: x, y (16 bits each), layer, flags (8 each).
@@ -17,22 +17,21 @@ pub const PIN_BYTES: usize = 6;
 
 // Each pin in order: 19, or its flags joined to those of its node. Nodes are all that the route has, where the table has them all.
 pub fn join_pins(
-    text: &[u8],
-    place: usize,
+    reader: Reader,
     points: usize,
     nodes: Option<&[Node]>,
     pins: &[u8],
     flags: &mut [u8],
 ) -> Result<(), Refusal>
-    requires routed { Routed text.now place points nodes }
+    requires routed { Routed reader.text.now reader.place points nodes }
     requires most_nodes_in_bounds { (most_nodes ≤ length flags.old) × ((i : ℕ) → get_or flags.old i 0 ≡ 0) }
-    ensures verdict { checked result ≡ pins_refusal (route_nodes text.now place) pins.now }
-    ensures joined { OnOk result (Joined (route_nodes text.now place) pins.now (pin_count pins.now) flags.new) }
+    ensures verdict { checked result ≡ pins_refusal (route_nodes reader.entry.text.now reader.entry.place) pins.now }
+    ensures joined { OnOk result (Joined (route_nodes reader.entry.text.now reader.entry.place) pins.now (pin_count pins.now) flags.new) }
 {
     for k in 0..pins.len().div_ceil(PIN_BYTES) {
         let at = PIN_BYTES * k;
         let pin = &pins[at..];
-        if pin.len() < PIN_BYTES || !join_pin(text, place, points, nodes, pin, flags) {
+        if pin.len() < PIN_BYTES || !join_pin(reader, points, nodes, pin, flags) {
             return Err(Refusal::Pin(k as u64));
         }
     }
@@ -41,22 +40,21 @@ pub fn join_pins(
 
 // The first pin of `pins` meets a node; its flags are joined to the node's where the table has it.
 fn join_pin(
-    text: &[u8],
-    place: usize,
+    reader: Reader,
     points: usize,
     nodes: Option<&[Node]>,
     pins: &[u8],
     flags: &mut [u8],
 ) -> bool
-    requires routed { Routed text.now place points nodes }
+    requires routed { Routed reader.text.now reader.place points nodes }
     requires most_nodes_in_bounds { (most_nodes ≤ length flags.old) × (pin_bytes ≤ length pins.now) }
-    ensures { (result ≡ known (route_nodes text.now place) (pin_x pins.now 0) (pin_y pins.now 0) (pin_layer pins.now 0)) × (result ≡ true → JoinedOne (route_nodes text.now place) pins.now flags.old flags.new) }
+    ensures { (result ≡ known (route_nodes reader.entry.text.now reader.entry.place) (pin_x pins.now 0) (pin_y pins.now 0) (pin_layer pins.now 0)) × (result ≡ true → JoinedOne (route_nodes reader.entry.text.now reader.entry.place) pins.now flags.old flags.new) }
 {
     let x = u16_at(pins, 0);
     let y = u16_at(pins, 2);
     let layer = pins[4];
     let Some(nodes) = nodes else {
-        return read_again_at(text, place, points, x, y, layer).is_some();
+        return reader.again(points, x, y, layer).is_some();
     };
     let Some(node) = node_on(nodes, x, y, layer) else {
         return false;

@@ -120,7 +120,11 @@ pub fn obstacle_bytes(version: u16) -> usize
 pub fn obstacle_count(version: u16, obstacles: &[u8]) -> usize
     ensures { result ≡ obstacle_count version obstacles.now }
 {
-    obstacles.len() / obstacle_bytes(version)
+    if version == FIRST_VERSION {
+        obstacles.len() / FIRST_OBSTACLE_BYTES
+    } else {
+        obstacles.len() / OBSTACLE_BYTES
+    }
 }
 
 // An obstacle of version 1 has no layer: it reads as the highest one.

@@ -2,12 +2,11 @@
 #![tactic(auto)]
 
 ghost use Rattle.std.specs.Prelude.{◌≡◌, ◌&&◌, ◌<◌, ◌≤◌, false, leb, MatchOption};
-ghost use Rattle.laws.specs.Sum.{any};
 ghost use Rattle.net.specs.Layout.{newest};
 ghost use Rattle.net.specs.Limits.{length_bound};
-ghost use Rattle.net.specs.Net.{wire_length, point_x, point_y, obstacle_count, barred};
+ghost use Rattle.net.specs.Net.{wire_length, point_x, point_y, barred};
 ghost use Rattle.points.specs.Cuttable.{Checked, Highest, Lowest};
-ghost use Rattle.points.specs.Lines.{Reaches, covers, bars, barred_at, BarredBy};
+ghost use Rattle.points.specs.Lines.{Reaches, covers, barred_at, BarredBy};
 
 mod line;
 
@@ -50,8 +49,7 @@ pub fn is_barred(
     if obstacles.is_empty() {
         return false;
     }
-    let layer = wire_at(wires, i).layer;
-    first_barring(version, obstacles, layer, point_at(nodes, wires, i, t)).is_some()
+    first_barring(version, obstacles, Line::of_wire(nodes, wires, i), t).is_some()
 }
 
 // The highest position of wire i from 1 to x that is not barred.
@@ -86,11 +84,11 @@ pub fn lowest_cuttable(
 // The search down a line. An obstacle that bars a position is left behind in one step, where a `for` would try its positions one by one.
 fn highest_free(obstacles: &[u8], line: Line, last: u32) -> Option<u32>
     requires { Reaches line last }
-    ensures { Highest (barred_at obstacles.now line) last result }
+    ensures { Highest (barred_at newest obstacles.now line) last result }
 {
     let mut t = last;
     while 0 < t {
-        match first_barring(NEWEST_VERSION, obstacles, line.layer, line.at(t)) {
+        match first_barring(NEWEST_VERSION, obstacles, line, t) {
             Some(obstacle) => t = line.last_below(obstacle),
             None => return Some(t),
         }
@@ -101,11 +99,11 @@ fn highest_free(obstacles: &[u8], line: Line, last: u32) -> Option<u32>
 // The search up, for positions below `end`.
 fn lowest_free(obstacles: &[u8], line: Line, first: u32, end: u32) -> Option<u32>
     requires { Reaches line end × (0 < first) }
-    ensures { Lowest (barred_at obstacles.now line) first end result }
+    ensures { Lowest (barred_at newest obstacles.now line) first end result }
 {
     let mut t = first;
     while t < end {
-        match first_barring(NEWEST_VERSION, obstacles, line.layer, line.at(t)) {
+        match first_barring(NEWEST_VERSION, obstacles, line, t) {
             Some(obstacle) => t = line.first_above(obstacle, end),
             None => return Some(t),
         }
@@ -113,13 +111,15 @@ fn lowest_free(obstacles: &[u8], line: Line, first: u32, end: u32) -> Option<u32
     None
 }
 
-// The first obstacle that bars the point p to a wire of a layer.
-fn first_barring(version: u16, obstacles: &[u8], layer: u8, p: Point) -> Option<Obstacle>
-    ensures { MatchOption result (any (obstacle_count version obstacles.now) (λ k. bars version obstacles.now layer k p.x p.y) ≡ false) (BarredBy version obstacles.now layer p) }
+// The first obstacle that bars position t of a line.
+fn first_barring(version: u16, obstacles: &[u8], line: Line, t: u32) -> Option<Obstacle>
+    requires { Reaches line t }
+    ensures { MatchOption result (barred_at version obstacles.now line t ≡ false) (BarredBy version obstacles.now line t) }
 {
+    let p = line.at(t);
     for k in 0..obstacle_count(version, obstacles) {
         let obstacle = obstacle_at(version, obstacles, k);
-        if bars(obstacle, layer, p) {
+        if bars(obstacle, line.layer, p) {
             return Some(obstacle);
         }
     }

@@ -82,7 +82,7 @@ fn lowest_layer(layers: u16) -> u8
 }
 
 // Bit 2 where a piece is harmful: it has a gate, no source, and weighs more than the limit.
-pub fn with_harm(limit: u32, weight: u64, flags: u8) -> u8
+fn with_harm(limit: u32, weight: u64, flags: u8) -> u8
     requires { flags < 4 }
     ensures { result ≡ with_harm limit weight flags }
 {
@@ -93,7 +93,7 @@ pub fn with_harm(limit: u32, weight: u64, flags: u8) -> u8
 }
 
 // Joins a weight, a node's flags and layers to the piece with nodes whose record begins the remainder. Layers that the record has already are left as they stand.
-pub fn join_record(rest: &mut [u8], limit: u32, weight: u64, flags: u8, layers: u16)
+pub(crate) fn join_record(rest: &mut [u8], limit: u32, weight: u64, flags: u8, layers: u16)
     requires { (record_bytes ≤ length rest.old) × NodeRecord rest.old × (weight < wire_weight_bound) × (flags < 4) }
     ensures { rest.new ≡ joined limit weight flags layers rest.old ++ drop record_bytes rest.old }
 {

@@ -28,7 +28,7 @@ pub fn weight_of(steps: u32, factor: u8) -> u64
 }
 
 // The mask of a layer.
-pub fn mask_of(layer: u8) -> u16
+fn mask_of(layer: u8) -> u16
     requires { (1 ≤ layer) × (layer ≤ most_layers) }
     ensures { result ≡ 2 ^ (layer - 1) }
 {
@@ -156,7 +156,7 @@ fn part_wire(
 
 // Node i with its wire, whose entries in the list are those: the buffer, which begins with the records of the nodes below i, then begins with those of the
 // nodes up to i; where they end.
-pub fn take_wire(
+pub(crate) fn take_wire(
     stage: u8,
     limit: u32,
     nodes: &[u8],

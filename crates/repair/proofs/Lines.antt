@@ -1,14 +1,17 @@
 -- The lines of an answer are those that its promise allows.
-use Rattle.std.proofs.Common.{ℕ, ◌*◌, ◌≡◌, refl, Bool, true, false, not, eqb, List, ◌++◌, length, take, drop, sym, ap, subst, None, Some, IfSome, arith}
+use Rattle.std.specs.Prelude.{Result, Ok, Err, IfOk}
+use Rattle.std.proofs.Common.{ℕ, ◌*◌, ◌≤◌, ◌≡◌, refl, Bool, true, false, not, eqb, List, ◌++◌, length, take, drop, sym, ap, subst, None, Some, IfSome, arith}
 use Rattle.std.specs.declared.option.Option.{Option}
 use Rattle.std.specs.Io.KnownBytes.{Appends}
 use Rattle.std.proofs.Math.Seq.{take_at}
 use Rattle.net.specs.declared.Answer.{Answer}
+use Rattle.net.specs.declared.refusal.Refusal.{Refusal}
+use Rattle.net.specs.Numbers.{answered}
 use Rattle.net.specs.Layout.{entry_bytes}
 use Rattle.net.specs.Refusal.{Verdict, met, answer, refusal, none}
 use Rattle.net.specs.Call.{net_at, call_refusal}
 use Rattle.repairs.specs.Promise.{Repaired, Judged, no_legal_set, too_short, done}
-use Rattle.antenna.specs.Exactly.{enough}
+use Rattle.antenna.specs.Exactly.{enough, list_room}
 use Rattle.console.specs.Lines.{refusal_line}
 use Rattle.repair.specs.Printed.{most_input, lent_bytes, jumper_lines, answer_lines, JudgedLines, CallLines, Printed}
 
@@ -39,6 +42,12 @@ repaired_lines stage limit file out after r p lent = record {
     lines u (no_legal_set f e k) = JudgedLines.no_legal_set f (line_of (refusal 15 0) r after refl e)
     lines u (too_short list n m lt e k) = absurd (enough p u (omega (arith, lent)) (sixteen n e))
     lines u (done list n m le e k) = JudgedLines.done list n m (done_lines r after list (drop (entry_bytes * n) out) n m.whole e k)
+
+-- the jumpers lie in the buffer
+pub jumpers-room : {stage limit : ℕ} {file out after : List ℕ} (r : Result ℕ Refusal) → Repaired stage limit file out after (answered r) →
+    IfOk r (λ n. entry_bytes * n ≤ length out)
+jumpers-room (Ok n) p = list_room p refl
+jumpers-room (Err refusal) p = tt
 
 -- of a reader whose bytes are known
 pub read_lines : (known a b : Option (List ℕ)) (text lines : List ℕ) → IfSome known (λ xs. text ≡ take most_input xs) → Printed text lines → Appends a b lines →

@@ -1,30 +1,29 @@
 // Reads stage, limit and a net file from standard input, repairs the net and prints the jumpers.
 #![tactic(auto)]
 
-ghost use Rattle.std.specs.Prelude.{◌≡◌, ℕ, ◌*◌, ◌≤◌, List, length, take, IfSome, OnOk};
+ghost use Rattle.std.specs.Prelude.{ℕ, ◌*◌, ◌≤◌, List, length, take, IfOk, IfSome, OnOk};
 ghost use Rattle.std.specs.Io.KnownBytes.{Appends};
 ghost use Rattle.net.specs.Layout.{entry_bytes};
+ghost use Rattle.net.specs.Numbers.{answered};
 ghost use Rattle.repair.specs.Printed.{most_input, answer_lines, Printed};
 
-use net::Answer;
 use net::layout::ENTRY_BYTES;
+use net::refusal::Refusal;
 use std::io;
 use std::io::{Read, Write};
 
 // `jumpers` and the count, then the list; or the refusal.
-fn print_answer<W: Write>(to: &mut W, a: Answer, out: &[u8]) -> io::Result<()>
-    requires { a.number ≡ 0 → entry_bytes * a.count ≤ length out.now }
-    ensures { OnOk result (Appends (W.contents to.old) (W.contents to.new) (answer_lines a out.now)) }
+fn print_answer<W: Write>(to: &mut W, answer: Result<u64, Refusal>, out: &[u8]) -> io::Result<()>
+    requires { IfOk answer (λ n. entry_bytes * n ≤ length out.now) }
+    ensures { OnOk result (Appends (W.contents to.old) (W.contents to.new) (answer_lines (answered answer) out.now)) }
 {
-    let number = a.number;
-    if number != 0 {
-        return console::print_refusal(to, number, a.place);
+    match answer {
+        Ok(count) => {
+            writeln!(to, "jumpers {count}")?;
+            console::print_list(to, &out[..ENTRY_BYTES * (count as usize)])
+        }
+        Err(refusal) => console::print_refusal(to, refusal),
     }
-    let count = a.count;
-    to.write_all(b"jumpers ")?;
-    console::print_number(to, count, b'\n')?;
-    let used = ENTRY_BYTES * (count as usize);
-    console::print_list(to, &out[..used])
 }
 
 // Reads at most 8,192 bytes, and prints the answer to them.
@@ -38,8 +37,8 @@ fn run<R: Read, W: Write>(from: &mut R, to: &mut W) -> io::Result<()>
     let limit = console::limit_of(text);
     let file = console::file_of(text);
     let mut out = [0u8; 65535];
-    let a = antenna::antenna_repair(stage, limit, file, &mut out);
-    print_answer(to, a, &out)
+    let answer = antenna::antenna_repair(stage, limit, file, &mut out);
+    print_answer(to, answer, &out)
 }
 
 fn main(rt: HostRuntime) -> io::Result<()> {

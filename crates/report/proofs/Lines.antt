@@ -1,10 +1,13 @@
 -- The lines of report's answer.
-use Rattle.std.proofs.Common.{ℕ, ◌*◌, ◌≤◌, ◌≡◌, refl, Bool, true, false, not, eqb, cond, List, [], ◌++◌, length, take, drop, sym, ap, subst, ◌∙◌, None, Some, IfSome, arith}
-use Rattle.std.proofs.Math.Seq.{take_at, take-nil}
-use Rattle.std.proofs.lemmas.List.{drop_all, length-take-le}
+use Rattle.std.specs.Prelude.{Result, Ok, Err, IfOk}
+use Rattle.std.proofs.Common.{ℕ, ◌*◌, ◌≤◌, ◌≡◌, refl, Bool, true, false, not, eqb, cond, List, [], ◌++◌, length, take, drop, sym, ap, subst, ◌∙◌, None, Some, IfSome}
+use Rattle.std.proofs.Math.Seq.{take_at}
 use Rattle.std.specs.declared.option.Option.{Option}
 use Rattle.std.specs.Io.KnownBytes.{Appends}
 use Rattle.net.specs.declared.Answer.{Answer}
+use Rattle.net.specs.declared.refusal.Refusal.{Refusal}
+use Rattle.net.specs.Numbers.{answered}
+use Rattle.antenna.specs.Room.{record_room}
 use Rattle.net.specs.Layout.{record_bytes}
 use Rattle.net.specs.Refusal.{Verdict, met, answer}
 use Rattle.net.specs.Call.{net_at}
@@ -38,10 +41,6 @@ either_lines : (q : Verdict) (count : ℕ) (out records rest : List ℕ) → len
 either_lines q count out records rest whole true m = refused_lines q count out m
 either_lines q count out records rest whole false m = done_lines q count records rest m whole
 
--- behind the first n bytes of n bytes there are none
-pub none_behind : (n k : ℕ) (xs : List ℕ) → n ≤ length xs → take k (drop n (take n xs)) ≡ []
-none_behind n k xs within = let l = length-take-le n xs within in ap (take k) (drop_all n (take n xs) (omega arith)) ∙ take-nil k
-
 pub reported_lines : (stage limit : ℕ) (file none out after : List ℕ) (r : Answer) → none ≡ [] → length out ≡ lent_bytes → r ≡ report_answer stage file none (length out) →
     after ≡ report_buffer stage limit file none out → answer_lines r after ≡ call_lines stage limit file
 unfolding report_answer report_buffer pieces_buffer
@@ -51,6 +50,12 @@ reported_lines stage limit file none out after r nothing lent e k =
     let records = report_of (net_at file stage) limit (set_of []) in
     let whole = report_length (net_at file stage) limit (set_of []) in
     rw (e, k, lent, nothing) (either_lines q count out records (drop (record_bytes * count) out) whole (met q) refl)
+
+-- the records lie in the buffer
+pub records-room : (stage : ℕ) (file list : List ℕ) (lent : ℕ) (r : Result ℕ Refusal) → answered r ≡ report_answer stage file list lent →
+    IfOk r (λ n. record_bytes * n ≤ lent)
+records-room stage file list lent (Ok n) e = record_room stage file list lent (answered (Ok n)) e refl
+records-room stage file list lent (Err refusal) e = tt
 
 -- of a reader whose bytes are known
 pub read_lines : (known a b : Option (List ℕ)) (text lines : List ℕ) → IfSome known (λ xs. text ≡ take most_input xs) → lines ≡ printed text → Appends a b lines →

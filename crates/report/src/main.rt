@@ -1,27 +1,26 @@
 // Reads stage, limit and a net file from standard input and prints the piece records of the uncut stage, one a line.
 #![tactic(auto)]
 
-ghost use Rattle.std.specs.Prelude.{◌≡◌, ◌*◌, ◌≤◌, length, take, IfSome, OnOk};
+ghost use Rattle.std.specs.Prelude.{◌*◌, ◌≤◌, length, take, IfOk, IfSome, OnOk};
 ghost use Rattle.std.specs.Io.KnownBytes.{Appends};
 ghost use Rattle.net.specs.Layout.{record_bytes};
+ghost use Rattle.net.specs.Numbers.{answered};
 ghost use Rattle.report.specs.Printed.{most_input, answer_lines, printed};
 
-use net::Answer;
 use net::layout::RECORD_BYTES;
+use net::refusal::Refusal;
 use std::io;
 use std::io::{Read, Write};
 
 // The records; or the refusal.
-fn print_answer<W: Write>(to: &mut W, a: Answer, out: &[u8]) -> io::Result<()>
-    requires { a.number ≡ 0 → record_bytes * a.count ≤ length out.now }
-    ensures { OnOk result (Appends (W.contents to.old) (W.contents to.new) (answer_lines a out.now)) }
+fn print_answer<W: Write>(to: &mut W, answer: Result<u64, Refusal>, out: &[u8]) -> io::Result<()>
+    requires { IfOk answer (λ n. record_bytes * n ≤ length out.now) }
+    ensures { OnOk result (Appends (W.contents to.old) (W.contents to.new) (answer_lines (answered answer) out.now)) }
 {
-    let number = a.number;
-    if number != 0 {
-        return console::print_refusal(to, number, a.place);
+    match answer {
+        Ok(count) => console::print_records(to, &out[..RECORD_BYTES * (count as usize)]),
+        Err(refusal) => console::print_refusal(to, refusal),
     }
-    let used = RECORD_BYTES * (a.count as usize);
-    console::print_records(to, &out[..used])
 }
 
 // Reads at most 8,192 bytes, and prints the answer to them.
@@ -34,10 +33,9 @@ fn run<R: Read, W: Write>(from: &mut R, to: &mut W) -> io::Result<()>
     let stage = console::stage_of(text);
     let limit = console::limit_of(text);
     let file = console::file_of(text);
-    let none = &text[n..];
     let mut out = [0u8; 3072];
-    let a = antenna::antenna_report(stage, limit, file, none, &mut out);
-    print_answer(to, a, &out)
+    let answer = antenna::antenna_report(stage, limit, file, &[], &mut out);
+    print_answer(to, answer, &out)
 }
 
 fn main(rt: HostRuntime) -> io::Result<()> {

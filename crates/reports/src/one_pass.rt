@@ -22,6 +22,7 @@ impl Steps for OnePass {
     }
 }
 
+// The records at the start of the lent buffer and their number, or the first refusal met.
 pub fn report(
     stage: u32,
     limit: u32,

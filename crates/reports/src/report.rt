@@ -17,7 +17,7 @@ use net::layout::{MOST_NODES, RECORD_BYTES};
 use net::refusal::Refusal;
 
 // The steps of a report that can be done in more than one way.
-pub trait Steps {
+pub(crate) trait Steps {
     // 12 to 14.
     fn check(net: Net, stage: u8, jumpers: &[u8]) -> Result<(), Refusal>
         ensures { checked result ≡ list_refusal (stage_of_net net.entry stage) jumpers.now };
@@ -30,7 +30,7 @@ pub trait Steps {
 }
 
 // What is tried, in order: 1, 2 to 11 and 20, 12 to 14, 16; then the records are written, and their number is answered.
-pub fn report_by<S: Steps>(
+pub(crate) fn report_by<S: Steps>(
     stage: u32,
     limit: u32,
     file: &[u8],
@@ -65,6 +65,7 @@ impl Steps for Gathering {
     }
 }
 
+// The records at the start of the lent buffer and their number, or the first refusal met.
 pub fn report(
     stage: u32,
     limit: u32,

@@ -4,8 +4,9 @@ ghost use Rattle.paths.specs.Again.{first_read};
 ghost use Rattle.routes.specs.Table.{RouteRead};
 
 use crate::Route;
-use crate::reading::{read_again, read_route};
+use crate::reading::read_route;
 use net::refusal::Refusal;
+use paths::first_read;
 
 #[derive(Clone, Copy)]
 pub struct Reader<'a> {
@@ -25,27 +26,6 @@ impl<'a> Reader<'a> {
     pub fn again(self, points: usize, x: u16, y: u16, layer: u8) -> Option<usize>
         ensures { result ≡ first_read self.entry.text.now self.entry.place points x y layer layer }
     {
-        read_again(self.text, self.place, points, x, y, layer)
+        first_read(self.text, self.place, points, x, y, layer, layer)
     }
-}
-
-// For callers without a reader: the route from a place on.
-pub fn route_at(text: &[u8], place: usize) -> Result<Route, Refusal>
-    ensures { RouteRead text.now place result }
-{
-    Reader { text, place }.route()
-}
-
-// Which of the first `points` points is the first at x, y on the layer.
-pub fn read_again_at(
-    text: &[u8],
-    place: usize,
-    points: usize,
-    x: u16,
-    y: u16,
-    layer: u8,
-) -> Option<usize>
-    ensures { result ≡ first_read text.now place points x y layer layer }
-{
-    Reader { text, place }.again(points, x, y, layer)
 }

@@ -89,17 +89,3 @@ fn is_refused(text: &[u8], place: usize, points: usize, p: Point) -> bool
     }
     first_read(text, place, points, p.x, p.y, p.layer, p.layer).is_some()
 }
-
-// Reads the text again: which of its first `points` points is the first at x, y on the layer.
-pub fn read_again(
-    text: &[u8],
-    place: usize,
-    points: usize,
-    x: u16,
-    y: u16,
-    layer: u8,
-) -> Option<usize>
-    ensures { result ≡ first_read text.now place points x y layer layer }
-{
-    first_read(text, place, points, x, y, layer, layer)
-}

@@ -8,7 +8,7 @@ use Rattle.std.specs.Char.{is_ascii_digit}
 use Rattle.std.proofs.Math.Bool.{and-false}
 use Rattle.std.proofs.Common.{◌∙◌, add-one, lit<, drop-cons, drop_of_length-le}
 use native.Mathlib.Omega.{arith}
-use Rattle.std.proofs.Math.Nat.{pow-succ', pow-le-pow_right}
+use Rattle.std.proofs.Math.Nat.{pow-succ'}
 use Rattle.std.proofs.Math.ListN.{length}
 use borrow.Author.Tests.{lt-ltb, le-ltb, eq-eqb}
 use Rattle.std.proofs.lemmas.Bool.Decides.{nat_tests}
@@ -71,9 +71,6 @@ module _ (w : List ℕ) where
   module _ (v i : ℕ) (r : ReadUpTo w v i) where
     -- the next byte
     module _ (l : i < length w) where
-      pub value-fits : length w ≤ 5 → v < 10000
-      value-fits n = omega (arith, pow-le-pow_right {n = 10} (lit< tt) {i = i} {j = 4} (omega arith))
-
       pub number_other : is_ascii_digit (get_or w i 0) ≡ false → None ≡ spelled_number w
       unfolding digits is_number
       number_other d = simp (← r.all, drop-cons w i 0 l, digit-ascii, d, and-false)

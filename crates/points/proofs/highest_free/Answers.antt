@@ -1,18 +1,19 @@
 -- `points::highest_free` meets its contract. Assumes nothing.
 use Rattle.std.proofs.Common.{ℕ, ◌<◌, ◌≤◌, ◌≡◌, true, arith}
+use Rattle.net.specs.Layout.{newest}
 use Rattle.points.specs.Lines.{barred_at, reaches_less, leap_down}
 use Rattle.points.proofs.highest_free.Goals as goal
 
 leap : (c : goal.After-last_below-t) →
-    (c.last_below-t.result < c.loop-t.t) × ((s : ℕ) → c.last_below-t.result < s → s ≤ c.args.last → barred_at c.args.obstacles.now c.args.line s ≡ true)
+    (c.last_below-t.result < c.loop-t.t) × ((s : ℕ) → c.last_below-t.result < s → s ≤ c.args.last → barred_at newest c.args.obstacles.now c.args.line s ≡ true)
 leap c =
-    leap_down c.args.obstacles.now c.args.line c.loop-t.t (rw c.at.ensures at c.in-Some.ensures)
+    leap_down c.args.obstacles.now c.args.line c.loop-t.t c.in-Some.ensures
     c.loop-t-test.true
     c.last_below-t.ensures
     c.loop-t.invariant.1
 
-pub at-requires : goal.at-requires
-at-requires c = reaches_less c.requires (omega arith)
+pub first_barring-requires : goal.first_barring-requires
+first_barring-requires c = reaches_less c.requires (omega arith)
 
 pub loop-t-smaller : goal.loop-t-smaller
 loop-t-smaller c = (leap c).0
@@ -21,12 +22,11 @@ pub loop-t-preserved : goal.loop-t-preserved
 loop-t-preserved c = (omega (arith, (leap c).0), (leap c).1)
 
 pub returns-in-None : goal.returns-in-None
-unfolding barred_at
 returns-in-None c =
     let inv = c.loop-t.invariant in
     record {
       positive = c.loop-t-test.true;
       within = inv.0;
-      free = rw c.at.ensures at c.in-None.ensures;
+      free = c.in-None.ensures;
       above = inv.1;
     }

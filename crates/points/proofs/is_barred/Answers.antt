@@ -3,7 +3,7 @@ use Rattle.std.proofs.Common.{◌≡◌, ◌∙◌, sym, length, eqb-true}
 use native.Mathlib.Nat.{zero-div}
 use Rattle.laws.specs.Sum.{any}
 use Rattle.net.specs.Net.{barred}
-use Rattle.points.specs.Lines.{first_any}
+use Rattle.points.specs.Lines.{barred_is, first_any}
 use Rattle.points.proofs.is_barred.Goals as goal
 
 pub returns-then-is_empty : goal.returns-then-is_empty
@@ -13,8 +13,7 @@ returns-then-is_empty c =
     rw (e, zero-div)
 
 pub returns : goal.returns
-unfolding barred
 returns c =
     let a = c.args in
-    rw (c.is_some.ensures, ← c.wire_at-layer.ensures.layer, ← c.point_at.ensures.x, ← c.point_at.ensures.y)
-    (first_any a.version a.obstacles.now c.wire_at-layer.result.layer c.point_at.result c.first_barring.result c.first_barring.ensures)
+    let f = first_any a.version a.obstacles.now c.of_wire.result a.t c.first_barring.result c.first_barring.ensures in
+    rw c.is_some.ensures (rw c.of_wire.ensures.line at f) ∙ barred_is a.version a.nodes.now a.wires.now a.obstacles.now a.i a.t

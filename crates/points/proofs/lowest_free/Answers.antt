@@ -1,18 +1,19 @@
 -- `points::lowest_free` meets its contract. Assumes nothing.
 use Rattle.std.proofs.Common.{ℕ, ◌<◌, ◌≤◌, ◌≡◌, true, arith}
+use Rattle.net.specs.Layout.{newest}
 use Rattle.points.specs.Lines.{barred_at, reaches_less, leap_up}
 use Rattle.points.proofs.lowest_free.Goals as goal
 
 leap : (c : goal.After-first_above-t) →
-    (c.loop-t.t < c.first_above-t.result) × ((s : ℕ) → c.args.first ≤ s → s < c.first_above-t.result → barred_at c.args.obstacles.now c.args.line s ≡ true)
+    (c.loop-t.t < c.first_above-t.result) × ((s : ℕ) → c.args.first ≤ s → s < c.first_above-t.result → barred_at newest c.args.obstacles.now c.args.line s ≡ true)
 leap c =
-    leap_up c.args.obstacles.now c.args.line c.loop-t.t (rw c.at.ensures at c.in-Some.ensures)
+    leap_up c.args.obstacles.now c.args.line c.loop-t.t c.in-Some.ensures
     c.loop-t-test.true
     c.first_above-t.ensures
     c.loop-t.invariant.1
 
-pub at-requires : goal.at-requires
-at-requires c = reaches_less c.requires.0 (omega arith)
+pub first_barring-requires : goal.first_barring-requires
+first_barring-requires c = reaches_less c.requires.0 (omega arith)
 
 pub loop-t-smaller : goal.loop-t-smaller
 loop-t-smaller c = omega (arith, (leap c).0)
@@ -21,12 +22,11 @@ pub loop-t-preserved : goal.loop-t-preserved
 loop-t-preserved c = (omega (arith, (leap c).0), (leap c).1)
 
 pub returns-in-None : goal.returns-in-None
-unfolding barred_at
 returns-in-None c =
     let inv = c.loop-t.invariant in
     record {
       from = inv.0;
       within = c.loop-t-test.true;
-      free = rw c.at.ensures at c.in-None.ensures;
+      free = c.in-None.ensures;
       below = inv.1;
     }

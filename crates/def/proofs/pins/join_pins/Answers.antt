@@ -19,7 +19,7 @@ unfolding pins_refusal
 returns-then-pin-lt-PIN_BYTES-clause-verdict c =
     let p = c.args.pins.now in
     let l = c.loop-k in
-    let nodes = route_nodes c.args.text.now c.args.place in
+    let nodes = route_nodes c.args.reader.text.now c.args.reader.place in
     let q = c.div_ceil-k-end.ensures ∙ pins-counted p in
     let h : l.k < pin_count p = omega (arith, q) in
     elim c.then-pin-lt-PIN_BYTES.branch [
@@ -32,7 +32,7 @@ pub loop-k-preserved : goal.loop-k-preserved
 loop-k-preserved c =
     let l = c.loop-k in
     let p = c.args.pins.now in
-    let nodes = route_nodes c.args.text.now c.args.place in
+    let nodes = route_nodes c.args.reader.text.now c.args.reader.place in
     let q = c.div_ceil-k-end.ensures ∙ pins-counted p in
     let t = c.if-not-join_pin.false in
     let k = sym (part-known p l.k _ refl (omega arith) nodes) ∙ (sym c.join_pin.ensures.0 ∙ t) in (

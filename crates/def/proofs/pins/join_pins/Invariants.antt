@@ -9,4 +9,4 @@ use Rattle.def.proofs.pins.join_pins.Given as goal
 
 abbrev pub invariant-loop-k : goal.invariant-loop-k
 invariant-loop-k l =
-    (none ≡ first_of l.k (λ j. pin_refusal (route_nodes l.text l.place) l.pins j)) × Joined (route_nodes l.text l.place) l.pins l.k l.flags
+    (none ≡ first_of l.k (λ j. pin_refusal (route_nodes l.reader.text.now l.reader.place) l.pins j)) × Joined (route_nodes l.reader.text.now l.reader.place) l.pins l.k l.flags
