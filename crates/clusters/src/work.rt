@@ -1,5 +1,5 @@
 // The work arrays that the first passes of repair fill.
-ghost use Rattle.std.specs.Prelude.{◌<◌, ◌≤◌};
+ghost use Rattle.std.specs.Prelude.{◌≡◌, ◌<◌, ◌≤◌};
 
 // The lowest and the highest position of a wire that may be cut.
 #[derive(Clone, Copy)]
@@ -38,7 +38,10 @@ pub struct Clusters<const N: usize> {
 }
 
 impl<const N: usize> Clusters<N> {
-    pub fn new() -> Self {
+    // Before the first pass.
+    pub fn new() -> Self
+        ensures { result.n ≡ 0 }
+    {
         Clusters {
             n: 0,
             cuttable: [None; N],

@@ -5,13 +5,11 @@ ghost use Rattle.std.specs.Prelude.{◌≡◌, ℕ, ◌+◌, ◌*◌, ◌/◌, �
 ghost use Rattle.std.specs.Io.KnownBytes.{Appends};
 ghost use Rattle.laws.specs.Gather.{gather};
 ghost use Rattle.net.specs.Layout.{entry_bytes, record_bytes};
-ghost use Rattle.net.specs.Numbers.{number_of, place_of};
 ghost use Rattle.console.specs.Input.{input_stage, input_limit, input_file};
 ghost use Rattle.console.specs.Lines.{refusal_line, entry_line, list_lines, record_line, record_lines};
 
 use net::fields::{u16_at, u32_at};
 use net::layout::{ENTRY_BYTES, RECORD_BYTES};
-use net::refusal::Refusal;
 use std::io;
 use std::io::{Read, Write};
 
@@ -59,10 +57,10 @@ pub fn file_of(input: &[u8]) -> &[u8]
 }
 
 // A refusal: `refused`, number and place, with one space between.
-pub fn print_refusal<W: Write>(to: &mut W, refusal: Refusal) -> io::Result<()>
-    ensures { OnOk result (Appends (W.contents to.old) (W.contents to.new) (refusal_line (number_of refusal) (place_of refusal))) }
+pub fn print_refusal<W: Write>(to: &mut W, number: u32, place: u64) -> io::Result<()>
+    ensures { OnOk result (Appends (W.contents to.old) (W.contents to.new) (refusal_line number place)) }
 {
-    writeln!(to, "refused {} {}", refusal.number(), refusal.place())
+    writeln!(to, "refused {number} {place}")
 }
 
 // The wire and the position of an entry.

@@ -1,4 +1,5 @@
 // The work arrays of the pass down, with an entry for each of at most N nodes.
+ghost use Rattle.std.specs.Prelude.{◌≡◌, false, ℕ, get_or};
 
 use clusters::work::Jumper;
 
@@ -19,7 +20,10 @@ pub struct Counts<const N: usize> {
 }
 
 impl<const N: usize> Counts<N> {
-    pub fn new() -> Self {
+    // Before the pass: no branch is marked.
+    pub fn new() -> Self
+        ensures { (j : ℕ) → get_or result.cut_any j false ≡ false }
+    {
         Counts {
             cut_any: [false; N],
             any_ok: [false; N],

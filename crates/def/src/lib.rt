@@ -60,8 +60,8 @@ fn write_net(nodes: &[Node], flags: &[u8], obstacles: &[u8], out: &mut [u8]) -> 
 {
     let nodes_end = NODE_BYTES * nodes.len();
     let wires_end = WIRE_BYTES * (nodes.len() - 1);
-    let mut node_section = [0; 1280];
-    let mut wire_section = [0; 768];
+    let mut node_section = [0; NODE_BYTES * MOST_NODES];
+    let mut wire_section = [0; WIRE_BYTES * MOST_NODES];
     write_nodes(nodes, flags, &mut node_section);
     write_wires(nodes, &mut wire_section);
     write(

@@ -22,7 +22,7 @@ fn print_answer<W: Write>(to: &mut W, answer: Result<u64, Refusal>, out: &[u8]) 
             writeln!(to, "jumpers {count}")?;
             console::print_list(to, &out[..ENTRY_BYTES * (count as usize)])
         }
-        Err(refusal) => console::print_refusal(to, refusal),
+        Err(refusal) => console::print_refusal(to, refusal.number(), refusal.place()),
     }
 }
 

@@ -7,7 +7,7 @@ ghost use Rattle.net.specs.Layout.{record_bytes};
 ghost use Rattle.net.specs.Numbers.{answered};
 ghost use Rattle.report.specs.Printed.{most_input, answer_lines, printed};
 
-use net::layout::RECORD_BYTES;
+use net::layout::{MOST_NODES, RECORD_BYTES};
 use net::refusal::Refusal;
 use std::io;
 use std::io::{Read, Write};
@@ -19,7 +19,7 @@ fn print_answer<W: Write>(to: &mut W, answer: Result<u64, Refusal>, out: &[u8]) 
 {
     match answer {
         Ok(count) => console::print_records(to, &out[..RECORD_BYTES * (count as usize)]),
-        Err(refusal) => console::print_refusal(to, refusal),
+        Err(refusal) => console::print_refusal(to, refusal.number(), refusal.place()),
     }
 }
 
@@ -33,7 +33,7 @@ fn run<R: Read, W: Write>(from: &mut R, to: &mut W) -> io::Result<()>
     let stage = console::stage_of(text);
     let limit = console::limit_of(text);
     let file = console::file_of(text);
-    let mut out = [0u8; 3072];
+    let mut out = [0u8; RECORD_BYTES * MOST_NODES];
     let answer = antenna::antenna_report(stage, limit, file, &[], &mut out);
     print_answer(to, answer, &out)
 }

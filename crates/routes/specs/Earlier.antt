@@ -8,7 +8,8 @@ use Rattle.paths.specs.declared.Point.{Point}
 use Rattle.paths.specs.declared.Wrong.{Wrong}
 use Rattle.paths.specs.Form.{start, points_of, ending_of}
 use Rattle.paths.specs.Order.{RisingTo, rising-≤, points_before_wrong}
-use Rattle.routes.specs.Nodes.{Node, no_point, reach, point_refused, points_refusal, route_refusal}
+use Rattle.routes.specs.declared.Node.{Node}
+use Rattle.routes.specs.Nodes.{no_point, reach, point_refused, points_refusal, route_refusal}
 
 refused-before : (nodes : List Node) (before : Point) (from : ℕ) (points : List Point) (to : ℕ) → RisingTo from points to
     → met (points_refusal nodes before points) ≡ true

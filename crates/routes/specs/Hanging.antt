@@ -11,7 +11,8 @@ use Rattle.net.specs.First.{unmet_if, unmet_l, unmet_r}
 use Rattle.paths.specs.declared.Point.{Point}
 use Rattle.paths.specs.Form.{points_of, ending_of}
 use Rattle.paths.specs.FormLaws.{InRange, AllInRange, points_in_range}
-use Rattle.routes.specs.Nodes.{Node, no_node, no_point, node_at, known, lowest_at, higher, made_by, reach, nodes_from, route_nodes, point_refused, points_refusal, form_refusal, route_refusal}
+use Rattle.routes.specs.declared.Node.{Node}
+use Rattle.routes.specs.Nodes.{no_node, no_point, node_at, known, lowest_at, higher, made_by, reach, nodes_from, route_nodes, point_refused, points_refusal, form_refusal, route_refusal}
 use Rattle.routes.specs.Placing.{number-below, lowest_at_below}
 use Rattle.routes.specs.Reaching.{length_more, node-before, node_at_end, reach-known, reach-new, reached_known}
 

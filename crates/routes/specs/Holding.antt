@@ -5,7 +5,8 @@ use Rattle.std.proofs.Common.{◌∙◌, ⊎_elim, arith, ext_get_or, get_or-set
 use Rattle.std.proofs.Math.Seq.{get_or-take}
 use Rattle.laws.specs.Sums.{last_or_below}
 use Rattle.net.specs.Layout.{most_nodes}
-use Rattle.routes.specs.Nodes.{Node, no_node}
+use Rattle.routes.specs.declared.Node.{Node}
+use Rattle.routes.specs.Nodes.{no_node}
 use Rattle.routes.specs.Table.{TableHolds}
 use Rattle.routes.specs.Reaching.{length_more, node-before, node_at_end}
 

@@ -11,7 +11,8 @@ use Rattle.paths.specs.declared.Point.{Point}
 use Rattle.paths.specs.Form.{points_of}
 use Rattle.paths.specs.Again.{stands_within, first_read}
 use Rattle.paths.specs.AgainLaws.{passes, first-whole}
-use Rattle.routes.specs.Nodes.{Node, no_point, known, reach, nodes_from, route_nodes}
+use Rattle.routes.specs.declared.Node.{Node}
+use Rattle.routes.specs.Nodes.{no_point, known, reach, nodes_from, route_nodes}
 use Rattle.routes.specs.Reaching.{known-reach}
 
 module _ (x y layer : ℕ) where

@@ -8,8 +8,7 @@ use Rattle.paths.specs.declared.Wrong.{Wrong}
 use Rattle.paths.specs.declared.Read.{Read}
 use Rattle.paths.specs.declared.Read.TheVariants.{End, Whole}
 use Rattle.paths.specs.Form.{points_of, ending_of}
--- a node: a point on a layer; the node it hangs on, and the layer of the wire or via between them
-pub use Rattle.routes.specs.declared.Node.{Node}
+use Rattle.routes.specs.declared.Node.{Node}
 
 -- where there is no node
 abbrev pub no_node : Node

@@ -11,7 +11,8 @@ use Rattle.laws.specs.Sum.{any, lowest}
 use Rattle.laws.specs.Sums.{by, and_no_right, and_false, any-no, any_none, lowest-passes, lowest-least, lowest-none, lowest-≤}
 use Rattle.paths.specs.declared.Point.{Point}
 use Rattle.routes.specs.declared.Placed.TheVariants.{Refused, Known, New}
-use Rattle.routes.specs.Nodes.{Node, no_node, node_at, known, known_at, number_on, lowest_at, higher, point_refused}
+use Rattle.routes.specs.declared.Node.{Node}
+use Rattle.routes.specs.Nodes.{no_node, node_at, known, known_at, number_on, lowest_at, higher, point_refused}
 use Rattle.routes.specs.Table.{placed}
 
 -- a number passes the test if the lowest one is below the end

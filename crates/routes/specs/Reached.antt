@@ -9,7 +9,8 @@ use Rattle.paths.specs.declared.Point.{Point}
 use Rattle.paths.specs.Again.{stands_within}
 use Rattle.paths.specs.AgainLaws.{passes, passes-more}
 use Rattle.routes.specs.declared.Found.{Found}
-use Rattle.routes.specs.Nodes.{Node, no_point, known, known_at, number_on, reach, nodes_from, point_refused, points_refusal}
+use Rattle.routes.specs.declared.Node.{Node}
+use Rattle.routes.specs.Nodes.{no_point, known, known_at, number_on, reach, nodes_from, point_refused, points_refusal}
 use Rattle.routes.specs.Table.{TableHolds, found_at}
 use Rattle.routes.specs.Reaching.{known-reach, known_at_reach, some_reached}
 

@@ -12,7 +12,8 @@ use Rattle.laws.specs.Sum.{any}
 use Rattle.laws.specs.Sums.{by, and_intro, and_left, and_right, and_comm, and_true, or_left, or_right, or_false, any_ap, any_next, any-yes, any-no, any_some, lowest_is, lowest-none, lowest-≤}
 use Rattle.paths.specs.declared.Point.{Point}
 use Rattle.paths.specs.Again.{stands_within}
-use Rattle.routes.specs.Nodes.{Node, no_node, node_at, stands_at, stands_on, known, known_at, number_on, lowest_at, made_by, reach}
+use Rattle.routes.specs.declared.Node.{Node}
+use Rattle.routes.specs.Nodes.{no_node, node_at, stands_at, stands_on, known, known_at, number_on, lowest_at, made_by, reach}
 
 -- some node passes a test
 abbrev some_node : (Node → Bool) → List Node → Bool

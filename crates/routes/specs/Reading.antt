@@ -18,7 +18,8 @@ use Rattle.paths.specs.declared.Read.TheVariants.{End, Whole}
 use Rattle.paths.specs.Form.{beginning, behind, start, read_points, read_ending, points_of, ending_of}
 use Rattle.paths.specs.FormLaws.{Sound, left, start-sound, sound-step, left-most, behind-left, points-step, ending-step, points_wrong, points-end, ending_wrong, ending-end, end-points}
 use Rattle.routes.specs.declared.Found.{Found}
-use Rattle.routes.specs.Nodes.{Node, no_point, points_refusal, route_refusal, route_end, end_of, form_refusal, route_nodes, nodes_from}
+use Rattle.routes.specs.declared.Node.{Node}
+use Rattle.routes.specs.Nodes.{no_point, points_refusal, route_refusal, route_end, end_of, form_refusal, route_nodes, nodes_from}
 use Rattle.routes.specs.Table.{counted, found_at, RouteRead}
 use Rattle.routes.specs.Reached.{Reached, start_reached}
 

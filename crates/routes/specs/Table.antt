@@ -10,7 +10,8 @@ use Rattle.routes.specs.declared.Route.{Route}
 use Rattle.routes.specs.declared.Found.{Found}
 use Rattle.routes.specs.declared.Placed.{Placed}
 use Rattle.routes.specs.declared.Placed.TheVariants.{Refused, Known, New}
-use Rattle.routes.specs.Nodes.{Node, node_at, known, number_on, lowest_at, higher, point_refused, route_refusal, route_nodes, route_end}
+use Rattle.routes.specs.declared.Node.{Node}
+use Rattle.routes.specs.Nodes.{node_at, known, number_on, lowest_at, higher, point_refused, route_refusal, route_nodes, route_end}
 
 -- the table has the first nodes
 pub record TableHolds (nodes table : List Node) : Type 0 where

@@ -14,7 +14,8 @@ use Rattle.paths.specs.AgainLaws.{first_some, first-none}
 use Rattle.routes.specs.declared.Found.{Found}
 use Rattle.routes.specs.declared.Placed.{Placed}
 use Rattle.routes.specs.declared.Placed.TheVariants.{Refused, Known, New}
-use Rattle.routes.specs.Nodes.{Node, node_at, known, number_on, lowest_at, higher, made_by, reach, point_refused}
+use Rattle.routes.specs.declared.Node.{Node}
+use Rattle.routes.specs.Nodes.{node_at, known, number_on, lowest_at, higher, made_by, reach, point_refused}
 use Rattle.routes.specs.Table.{found_at, placed}
 use Rattle.routes.specs.Reaching.{length_more, reach-known, reach-new, length-reach, number-reach, number-most, lowest_at_most}
 use Rattle.routes.specs.Holding.{holds_all, holds_past, holds-stored}

@@ -6,7 +6,8 @@ use Rattle.std.proofs.Common.{rules, tests}
 use Rattle.std.proofs.lemmas.Iterator.{YieldsList-from_slice}
 use Rattle.std.proofs.lemmas.Iterator.Search.{position_from_yields_List}
 use Rattle.laws.specs.Sums.{and_comm}
-use Rattle.routes.specs.Nodes.{Node, node_at, stands_at, known, number_on}
+use Rattle.routes.specs.declared.Node.{Node}
+use Rattle.routes.specs.Nodes.{node_at, stands_at, known, number_on}
 use Rattle.routes.specs.Placing.{first_passing}
 use Rattle.routes.proofs.table.node_on.Goals as goal
 
