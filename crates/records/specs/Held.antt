@@ -1,13 +1,13 @@
 -- What the pass by rising wire number holds after the wires below n: the records that document 01 defines for the nodes below n with the jumpers on their wires.
 -- Assumes nothing.
-use Rattle.std.specs.Prelude.{ℕ, ◌*◌, ◌<◌, ◌≤◌, ◌≡◌, List, ◌++◌, length, take, get_or}
+use Rattle.std.specs.Prelude.{ℕ, ◌*◌, ◌<◌, ◌≡◌, List, ◌++◌, length, take, get_or}
 use Rattle.laws.specs.Gather.{gather}
 use Rattle.net.specs.Layout.{record_bytes}
 use Rattle.net.specs.Stage.{Stage}
 use Rattle.pieces.specs.Piece.{Points}
 use Rattle.pieces.specs.Name.{lowest_node}
 use Rattle.pieces.specs.JumperList.{set_of}
-use Rattle.pieces.specs.Report.{node_names, stretch_names, report_of}
+use Rattle.pieces.specs.Report.{node_names, stretch_names}
 use Rattle.pieces.specs.FirstNodes.{first_records}
 use Rattle.records.specs.ListRight.{AtAccepted}
 
@@ -25,7 +25,3 @@ pub record RecordsHeld (s : Stage) (limit : ℕ) (J : Points) (n : ℕ) (places 
 abbrev pub HeldBelow : List ℕ → List ℕ → ℕ → List ℕ → ℕ → ℕ → List ℕ → ℕ → List ℕ → Type 0
 HeldBelow ns ws k list limit n places at out =
     AtAccepted ns ws k list (λ s. RecordsHeld s limit (set_of list) n places at out)
-
--- the buffer has room for the records of all pieces
-abbrev pub RecordsFit : List ℕ → List ℕ → ℕ → List ℕ → ℕ → List ℕ → Type 0
-RecordsFit ns ws k list limit out = AtAccepted ns ws k list (λ s. length (report_of s limit (set_of list)) ≤ length out)

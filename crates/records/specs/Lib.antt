@@ -1,6 +1,8 @@
 pub mod Record
 pub mod ListRight
+pub mod NoObstacles
 pub mod Held
+pub mod NetWithJumpers
 pub mod WireSums
 pub mod NodeRecords
 pub mod StretchRecords

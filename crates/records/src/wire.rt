@@ -9,10 +9,10 @@ ghost use Rattle.pieces.specs.Legal.{entry_position};
 ghost use Rattle.pieces.specs.JumperList.{entry_count};
 ghost use Rattle.lists.specs.EntriesOfWire.{OfWire};
 ghost use Rattle.records.specs.Record.{node_fields, stretches_fields};
-ghost use Rattle.records.specs.ListRight.{ListAccepted};
-ghost use Rattle.records.specs.Held.{HeldBelow, RecordsFit};
+ghost use Rattle.records.specs.NetWithJumpers.{HeldAtNet, RecordsFit};
 ghost use Rattle.records.specs.Wire.{WireReady, EntriesReady, joined_wire, parted_wire};
 
+use crate::NetWithJumpers;
 use crate::record::{Record, join_record};
 use lists::entries::entry_position;
 use net::fields::{Wire, is_present, node_at, wire_at};
@@ -98,89 +98,84 @@ pub fn write_stretches(
 }
 
 // A wire without a jumper: its steps and node i are in its parent's piece.
-fn join_wire(limit: u32, nodes: &[u8], wires: &[u8], i: usize, places: &mut [usize], out: &mut [u8])
-    requires { WireReady nodes.now wires.now i places.old out.old }
-    ensures { (places.new ≡ set places.old i (get_or places.old (wire_parent wires.now i) 0))
-        × (out.new ≡ joined_wire limit nodes.now wires.now i places.old out.old) }
+fn join_wire(net: NetWithJumpers, limit: u32, i: usize, places: &mut [usize], out: &mut [u8])
+    requires { WireReady net.nodes.now net.wires.now i places.old out.old }
+    ensures { (places.new ≡ set places.old i (get_or places.old (wire_parent net.entry.wires.now i) 0))
+        × (out.new ≡ joined_wire limit net.entry.nodes.now net.entry.wires.now i places.old out.old) }
 {
-    let wire = wire_at(wires, i);
+    let wire = wire_at(net.wires, i);
     let above = places[wire.parent];
-    let len = length_of(nodes, wires, i);
+    let len = length_of(net.nodes, net.wires, i);
     places[i] = above;
     join_record(
         &mut out[above..],
         limit,
         weight_of(len, wire.factor),
-        node_at(nodes, i).flags,
+        node_at(net.nodes, i).flags,
         layers_of(len, wire.layer),
     );
 }
 
 // A wire with jumpers, which are those entries: the steps above the last are in its parent's piece, those below the first in node i's; the stretches lie between.
 fn part_wire(
+    net: NetWithJumpers,
     limit: u32,
-    nodes: &[u8],
-    wires: &[u8],
-    jumpers: &[u8],
     i: usize,
     entries: Range<usize>,
     places: &mut [usize],
     out: &mut [u8],
     at: usize,
 ) -> usize
-    requires wire_ready { WireReady nodes.now wires.now i places.old out.old }
-    requires entries_ready { EntriesReady nodes.now wires.now jumpers.now i entries.start entries.end }
+    requires wire_ready { WireReady net.nodes.now net.wires.now i places.old out.old }
+    requires entries_ready { EntriesReady net.nodes.now net.wires.now net.jumpers.now i entries.start entries.end }
     requires room { at + record_bytes * (entries.end - entries.start) ≤ length out.old }
     ensures { (result ≡ at + record_bytes * (entries.end - entries.start)) × (places.new ≡ set places.old i at)
-        × (out.new ≡ parted_wire limit nodes.now wires.now jumpers.now i entries.start entries.end places.old at out.old) }
+        × (out.new ≡ parted_wire limit net.entry.nodes.now net.entry.wires.now net.entry.jumpers.now i entries.start entries.end places.old at out.old) }
 {
-    let wire = wire_at(wires, i);
+    let wire = wire_at(net.wires, i);
     let above = places[wire.parent];
     let mask = mask_of(wire.layer);
-    let first = entry_position(jumpers, entries.start);
-    let last = entry_position(jumpers, entries.end - 1);
-    let end_weight = weight_of(length_of(nodes, wires, i) - last, wire.factor);
+    let first = entry_position(net.jumpers, entries.start);
+    let last = entry_position(net.jumpers, entries.end - 1);
+    let end_weight = weight_of(length_of(net.nodes, net.wires, i) - last, wire.factor);
     join_record(&mut out[above..], limit, end_weight, 0, mask);
     let behind = start_piece(
         limit,
         i,
         weight_of(first, wire.factor),
-        node_at(nodes, i).flags,
+        node_at(net.nodes, i).flags,
         mask,
         places,
         out,
         at,
     );
-    write_stretches(jumpers, i, entries, wire, out, behind)
+    write_stretches(net.jumpers, i, entries, wire, out, behind)
 }
 
 // Node i with its wire, whose entries in the list are those: the buffer, which begins with the records of the nodes below i, then begins with those of the
 // nodes up to i; where they end.
 pub(crate) fn take_wire(
-    stage: u8,
+    net: NetWithJumpers,
     limit: u32,
-    nodes: &[u8],
-    wires: &[u8],
-    jumpers: &[u8],
     i: usize,
     entries: Range<usize>,
     places: &mut [usize],
     out: &mut [u8],
     at: usize,
 ) -> usize
-    requires list_accepted { ListAccepted nodes.now wires.now stage jumpers.now }
-    requires i_bound { (i < node_count nodes.now) × OfWire jumpers.now (entry_count jumpers.now) i entries.start entries.end }
-    requires nodes_in_bounds { (node_count nodes.now ≤ length places.old) × RecordsFit nodes.now wires.now stage jumpers.now limit out.old }
-    requires held_below { HeldBelow nodes.now wires.now stage jumpers.now limit i places.old at out.old }
-    ensures { HeldBelow nodes.now wires.now stage jumpers.now limit (i + 1) places.new result out.new
+    requires i_bound { (i < node_count net.nodes.now) × OfWire net.jumpers.now (entry_count net.jumpers.now) i entries.start entries.end }
+    requires nodes_in_bounds { node_count net.nodes.now ≤ length places.old }
+    requires records_fit { RecordsFit net limit out.old }
+    requires held_below { HeldAtNet net limit i places.old at out.old }
+    ensures { HeldAtNet net.entry limit (i + 1) places.new result out.new
         × (drop result out.new ≡ drop result out.old) }
 {
-    if !is_present(stage, wires, i) {
-        return start_piece(limit, i, 0, node_at(nodes, i).flags, 0, places, out, at);
+    if !is_present(net.stage, net.wires, i) {
+        return start_piece(limit, i, 0, node_at(net.nodes, i).flags, 0, places, out, at);
     }
     if entries.is_empty() {
-        join_wire(limit, nodes, wires, i, places, out);
+        join_wire(net, limit, i, places, out);
         return at;
     }
-    part_wire(limit, nodes, wires, jumpers, i, entries, places, out, at)
+    part_wire(net, limit, i, entries, places, out, at)
 }

@@ -1,16 +1,26 @@
 -- What the report may rely on once neither the call nor the list is refused: the sections handed out are those of the file.
 -- Assumes nothing.
 use Rattle.std.specs.Prelude.{ℕ, ◌≡◌, List}
-use Rattle.std.proofs.Common.{◌∙◌, ap}
+use Rattle.std.proofs.Common.{◌∙◌, ap, lit<}
+use Rattle.laws.specs.Numbers.{Bytes, bytes_take, bytes_drop}
+use Rattle.laws.specs.Sums.{by}
 use Rattle.net.specs.Stage.{Stage, stage_of}
-use Rattle.net.specs.File.{version_of}
-use Rattle.net.specs.Refusal.{Verdict, nodes_of, wires_of, obstacles_of}
+use Rattle.net.specs.File.{version_of, offset, extent, stretch}
+use Rattle.net.specs.Refusal.{Verdict, met, or_else, head_refusal, pairs_refusal, section_of, nodes_of, wires_of, obstacles_of}
 use Rattle.net.specs.Call.{net_at, call_refusal}
 use Rattle.net.specs.Calls.{call_unmet, call_right}
 use Rattle.pieces.specs.JumperList.{list_refusal}
 use Rattle.lists.specs.EntriesChecked.{list_none}
 use Rattle.records.specs.ListRight.{ListRight, AtAccepted}
 use Rattle.reports.specs.Promise.{piece_count}
+
+-- a section of a file of bytes
+pub section-bytes : (file : List ℕ) → Bytes file → (k : ℕ) → Bytes (section_of file k)
+unfolding section_of stretch
+section-bytes file b k =
+    by (met (or_else (head_refusal file) (pairs_refusal file)))
+    (λ y i. rw y (lit< tt))
+    (λ z. rw z (bytes_take (extent file k) _ (bytes_drop (offset file k) file b)))
 
 module _ (stage : ℕ) (file list : List ℕ) where
   -- the list's refusal on sections equal to those of the file

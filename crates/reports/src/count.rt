@@ -4,12 +4,12 @@ ghost use Rattle.laws.specs.Sum.{χ, sum};
 ghost use Rattle.net.specs.Layout.{wire_bytes, most_nodes};
 ghost use Rattle.net.specs.Limits.{length_bound};
 ghost use Rattle.net.specs.Net.{wire_layer};
-ghost use Rattle.net.specs.Stage.{stage_of};
 ghost use Rattle.reports.specs.Promise.{piece_count};
-ghost use Rattle.records.specs.ListRight.{ListRight, ListAccepted};
+ghost use Rattle.records.specs.NetWithJumpers.{AtNet};
 
 use lists::entries::entry_count;
 use net::fields::{is_present, node_count};
+use records::NetWithJumpers;
 
 // The wires that the stage has, of those below n.
 fn present_count(stage: u8, wires: &[u8], n: usize) -> usize
@@ -20,11 +20,9 @@ fn present_count(stage: u8, wires: &[u8], n: usize) -> usize
 }
 
 // The number of pieces.
-pub fn piece_count(stage: u8, nodes: &[u8], wires: &[u8], jumpers: &[u8]) -> usize
-    requires { ListAccepted nodes.now wires.now stage jumpers.now }
-    ensures { ((v : ℕ) (os : List ℕ) → ListRight v nodes.now wires.now stage jumpers.now os → result ≡ piece_count (stage_of v nodes.now wires.now os stage) jumpers.now)
-        × (result ≤ most_nodes * (length_bound + 1)) }
+pub fn piece_count(net: NetWithJumpers) -> usize
+    ensures { AtNet net.entry (λ s. result ≡ piece_count s net.entry.jumpers.now) × (result ≤ most_nodes * (length_bound + 1)) }
 {
-    let n = node_count(nodes);
-    n - present_count(stage, wires, n) + entry_count(jumpers)
+    let n = node_count(net.nodes);
+    n - present_count(net.stage, net.wires, n) + entry_count(net.jumpers)
 }

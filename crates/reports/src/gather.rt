@@ -5,8 +5,7 @@ ghost use Rattle.net.specs.Limits.{length_bound, wire_weight_bound};
 ghost use Rattle.net.specs.Net.{node_count, wire_length};
 ghost use Rattle.reports.specs.Gathered.{lowest, weight, flags, layers};
 ghost use Rattle.reports.specs.Gathering.{Named, Added, Joined, Parted};
-ghost use Rattle.records.specs.ListRight.{ListAccepted};
-ghost use Rattle.reports.specs.ListRight.{GatheredBelow, AtMost};
+ghost use Rattle.reports.specs.ListRight.{GatheredAtNet, AtMost};
 ghost use Rattle.reports.specs.ListRights.{WireReady};
 ghost use Rattle.records.specs.Reached.{Reached};
 
@@ -14,6 +13,7 @@ use lists::entries::entry_position;
 use lists::wire::entries_end;
 use net::fields::{Wire, is_present, node_at, node_count, wire_at};
 use points::length_of;
+use records::NetWithJumpers;
 use records::wire::{layers_of, weight_of};
 
 // Of a node, the lowest node of its piece; of a lowest node, the weight, the flags and the layers of its piece.
@@ -57,74 +57,64 @@ fn add_steps(pieces: &mut [Piece], h: usize, steps: u32, wire: Wire)
 }
 
 // A wire without a jumper: its steps and node i are in its parent's piece.
-fn join_wire(nodes: &[u8], wires: &[u8], i: usize, pieces: &mut [Piece])
-    requires { WireReady nodes.now wires.now i pieces.old }
-    ensures { Joined nodes.now wires.now i pieces.old pieces.new
+fn join_wire(net: NetWithJumpers, i: usize, pieces: &mut [Piece])
+    requires { WireReady net.nodes.now net.wires.now i pieces.old }
+    ensures { Joined net.entry.nodes.now net.entry.wires.now i pieces.old pieces.new
         × AtMost ((i + 1) * (2 * wire_weight_bound)) (weight pieces.new) }
 {
-    let wire = wire_at(wires, i);
+    let wire = wire_at(net.wires, i);
     let above = pieces[wire.parent].lowest;
-    let len = length_of(nodes, wires, i);
-    name_node(pieces, i, above, node_at(nodes, i).flags);
+    let len = length_of(net.nodes, net.wires, i);
+    name_node(pieces, i, above, node_at(net.nodes, i).flags);
     add_steps(pieces, above, len, wire);
 }
 
 // A wire with jumpers: the steps below the first are in node i's piece, those above the last in its parent's.
-fn part_wire(nodes: &[u8], wires: &[u8], i: usize, first: u32, last: u32, pieces: &mut [Piece])
-    requires wire_ready { WireReady nodes.now wires.now i pieces.old }
-    requires first_bound { (first < wire_length nodes.now wires.now i) × (last < wire_length nodes.now wires.now i) }
-    ensures { Parted nodes.now wires.now i first last pieces.old pieces.new
+fn part_wire(net: NetWithJumpers, i: usize, first: u32, last: u32, pieces: &mut [Piece])
+    requires wire_ready { WireReady net.nodes.now net.wires.now i pieces.old }
+    requires first_bound { (first < wire_length net.nodes.now net.wires.now i) × (last < wire_length net.nodes.now net.wires.now i) }
+    ensures { Parted net.entry.nodes.now net.entry.wires.now i first last pieces.old pieces.new
         × AtMost ((i + 1) * (2 * wire_weight_bound)) (weight pieces.new) }
 {
-    let wire = wire_at(wires, i);
+    let wire = wire_at(net.wires, i);
     let above = pieces[wire.parent].lowest;
-    let len = length_of(nodes, wires, i);
-    name_node(pieces, i, i, node_at(nodes, i).flags);
+    let len = length_of(net.nodes, net.wires, i);
+    name_node(pieces, i, i, node_at(net.nodes, i).flags);
     add_steps(pieces, i, first, wire);
     add_steps(pieces, above, len - last, wire);
 }
 
 // Node i with its wire, whose entries in the list begin at entry e: where they end.
-fn gather_wire(
-    stage: u8,
-    nodes: &[u8],
-    wires: &[u8],
-    jumpers: &[u8],
-    i: usize,
-    e: usize,
-    pieces: &mut [Piece],
-) -> usize
-    requires list_accepted { ListAccepted nodes.now wires.now stage jumpers.now }
-    requires i_bound { (i < node_count nodes.now) × Reached jumpers.now i e }
-    requires roomy { (node_count nodes.now ≤ length pieces.old) × AtMost (i * (2 * wire_weight_bound)) (weight pieces.old) }
-    requires gathered_below { GatheredBelow nodes.now wires.now stage jumpers.now i pieces.old }
-    ensures { Reached jumpers.now (i + 1) result × AtMost ((i + 1) * (2 * wire_weight_bound)) (weight pieces.new)
-        × GatheredBelow nodes.now wires.now stage jumpers.now (i + 1) pieces.new }
+fn gather_wire(net: NetWithJumpers, i: usize, e: usize, pieces: &mut [Piece]) -> usize
+    requires i_bound { (i < node_count net.nodes.now) × Reached net.jumpers.now i e }
+    requires roomy { (node_count net.nodes.now ≤ length pieces.old) × AtMost (i * (2 * wire_weight_bound)) (weight pieces.old) }
+    requires gathered_below { GatheredAtNet net i pieces.old }
+    ensures { Reached net.entry.jumpers.now (i + 1) result × AtMost ((i + 1) * (2 * wire_weight_bound)) (weight pieces.new)
+        × GatheredAtNet net.entry (i + 1) pieces.new }
 {
-    let end = entries_end(jumpers, i, e);
-    if !is_present(stage, wires, i) {
-        name_node(pieces, i, i, node_at(nodes, i).flags);
+    let end = entries_end(net.jumpers, i, e);
+    if !is_present(net.stage, net.wires, i) {
+        name_node(pieces, i, i, node_at(net.nodes, i).flags);
         return end;
     }
     if e == end {
-        join_wire(nodes, wires, i, pieces);
+        join_wire(net, i, pieces);
         return end;
     }
-    let first = entry_position(jumpers, e);
-    let last = entry_position(jumpers, end - 1);
-    part_wire(nodes, wires, i, first, last, pieces);
+    let first = entry_position(net.jumpers, e);
+    let last = entry_position(net.jumpers, end - 1);
+    part_wire(net, i, first, last, pieces);
     end
 }
 
 // All nodes and wires by rising number.
-pub fn gather(stage: u8, nodes: &[u8], wires: &[u8], jumpers: &[u8], pieces: &mut [Piece])
-    requires list_accepted { ListAccepted nodes.now wires.now stage jumpers.now }
-    requires roomy { (node_count nodes.now ≤ length pieces.old) }
+pub fn gather(net: NetWithJumpers, pieces: &mut [Piece])
+    requires roomy { (node_count net.nodes.now ≤ length pieces.old) }
     requires at_most { AtMost 0 (weight pieces.old) × AtMost 0 (flags pieces.old) × AtMost 0 (layers pieces.old) }
-    ensures { GatheredBelow nodes.now wires.now stage jumpers.now (node_count nodes.now) pieces.new }
+    ensures { GatheredAtNet net.entry (node_count net.entry.nodes.now) pieces.new }
 {
     let mut e = 0;
-    for i in 0..node_count(nodes) {
-        e = gather_wire(stage, nodes, wires, jumpers, i, e, pieces);
+    for i in 0..node_count(net.nodes) {
+        e = gather_wire(net, i, e, pieces);
     }
 }

@@ -7,6 +7,7 @@ use crate::report::{Steps, report_by};
 use lists::by_wire::list_refusal;
 use net::Net;
 use net::refusal::Refusal;
+use records::NetWithJumpers;
 use records::pass::write_records;
 
 // The length of a wire is computed once for its entries, and the records are brought up to date wire after wire.
@@ -17,8 +18,8 @@ impl Steps for OnePass {
         list_refusal(net, stage, jumpers)
     }
 
-    fn write(stage: u8, limit: u32, nodes: &[u8], wires: &[u8], jumpers: &[u8], out: &mut [u8]) {
-        write_records(stage, limit, nodes, wires, jumpers, out);
+    fn write(net: NetWithJumpers, limit: u32, out: &mut [u8]) {
+        write_records(net, limit, out);
     }
 }
 

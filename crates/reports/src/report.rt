@@ -3,8 +3,7 @@ ghost use Rattle.std.specs.Prelude.{◌≡◌, length};
 ghost use Rattle.net.specs.AcceptedNet.{stage_of_net};
 ghost use Rattle.net.specs.Numbers.{checked, answered};
 ghost use Rattle.pieces.specs.JumperList.{list_refusal};
-ghost use Rattle.records.specs.Held.{RecordsFit};
-ghost use Rattle.records.specs.ListRight.{ListAccepted, AtAccepted};
+ghost use Rattle.records.specs.NetWithJumpers.{AtNet, RecordsFit};
 ghost use Rattle.reports.specs.Promise.{pieces_buffer, report_answer, report_buffer};
 
 use crate::count::piece_count;
@@ -15,6 +14,7 @@ use net::Net;
 use net::call::accepted_net;
 use net::layout::{MOST_NODES, RECORD_BYTES};
 use net::refusal::Refusal;
+use records::NetWithJumpers;
 
 // The steps of a report that can be done in more than one way.
 pub(crate) trait Steps {
@@ -23,10 +23,9 @@ pub(crate) trait Steps {
         ensures { checked result ≡ list_refusal (stage_of_net net.entry stage) jumpers.now };
 
     // The records of all pieces, once 16 has been tried.
-    fn write(stage: u8, limit: u32, nodes: &[u8], wires: &[u8], jumpers: &[u8], out: &mut [u8])
-        requires list_accepted { ListAccepted nodes.now wires.now stage jumpers.now }
-        requires records_fit { RecordsFit nodes.now wires.now stage jumpers.now limit out.old }
-        ensures { AtAccepted nodes.now wires.now stage jumpers.now (λ s. out.new ≡ pieces_buffer s limit jumpers.now out.old) };
+    fn write(net: NetWithJumpers, limit: u32, out: &mut [u8])
+        requires { RecordsFit net limit out.old }
+        ensures { AtNet net.entry (λ s. out.new ≡ pieces_buffer s limit net.entry.jumpers.now out.old) };
 }
 
 // What is tried, in order: 1, 2 to 11 and 20, 12 to 14, 16; then the records are written, and their number is answered.
@@ -43,12 +42,18 @@ pub(crate) fn report_by<S: Steps>(
     let net = accepted_net(stage, file)?;
     let k = stage as u8;
     S::check(net, k, jumpers)?;
-    let records = piece_count(k, net.nodes, net.wires, jumpers);
+    let with_jumpers = NetWithJumpers {
+        stage: k,
+        nodes: net.nodes,
+        wires: net.wires,
+        jumpers,
+    };
+    let records = piece_count(with_jumpers);
     let needed = RECORD_BYTES * records;
     if out.len() < needed {
         return Err(Refusal::LentBuffer(needed as u64));
     }
-    S::write(k, limit, net.nodes, net.wires, jumpers, out);
+    S::write(with_jumpers, limit, out);
     Ok(records as u64)
 }
 
@@ -60,8 +65,8 @@ impl Steps for Gathering {
         list_refusal(net, stage, jumpers)
     }
 
-    fn write(stage: u8, limit: u32, nodes: &[u8], wires: &[u8], jumpers: &[u8], out: &mut [u8]) {
-        write_pieces(stage, limit, nodes, wires, jumpers, out);
+    fn write(net: NetWithJumpers, limit: u32, out: &mut [u8]) {
+        write_pieces(net, limit, out);
     }
 }
 
@@ -80,19 +85,11 @@ pub fn report(
 }
 
 // The work on an accepted net with an accepted list, once 16 has been tried: the records of all pieces.
-pub fn write_pieces(
-    stage: u8,
-    limit: u32,
-    nodes: &[u8],
-    wires: &[u8],
-    jumpers: &[u8],
-    out: &mut [u8],
-)
-    requires list_accepted { ListAccepted nodes.now wires.now stage jumpers.now }
-    requires records_fit { RecordsFit nodes.now wires.now stage jumpers.now limit out.old }
-    ensures { AtAccepted nodes.now wires.now stage jumpers.now (λ s. out.new ≡ pieces_buffer s limit jumpers.now out.old) }
+pub fn write_pieces(net: NetWithJumpers, limit: u32, out: &mut [u8])
+    requires { RecordsFit net limit out.old }
+    ensures { AtNet net.entry (λ s. out.new ≡ pieces_buffer s limit net.entry.jumpers.now out.old) }
 {
     let mut pieces = [NO_PIECE; MOST_NODES];
-    gather(stage, nodes, wires, jumpers, &mut pieces);
-    write_records(stage, limit, nodes, wires, jumpers, &pieces, out);
+    gather(net, &mut pieces);
+    write_records(net, limit, &pieces, out);
 }

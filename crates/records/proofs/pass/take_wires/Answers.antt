@@ -4,14 +4,15 @@ use Rattle.std.proofs.Common.{◌≡◌, refl, arith}
 use Rattle.net.specs.Net.{node_count}
 use Rattle.records.specs.Reached.{reached_none, reached_first, reached_wire, reached_next}
 use Rattle.records.specs.Taken.{taken_none, taken_rest, taken_all}
+use Rattle.records.specs.NetWithJumpers.{accepted_of}
 use Rattle.records.proofs.pass.take_wires.Goals as goal
 
 pub loop-i-init : goal.loop-i-init
 loop-i-init c =
     let a = c.args in
     record {
-      reached = reached_none a.jumpers.now;
-      held = taken_none a.nodes.now a.wires.now a.jumpers.now a.stage a.limit a.places.now a.out.now;
+      reached = reached_none a.net.jumpers.now;
+      held = taken_none a.net.nodes.now a.net.wires.now a.net.jumpers.now a.net.stage a.limit a.places.now a.out.now;
       behind = refl;
     }
 
@@ -21,7 +22,7 @@ entries_end-end-requires c =
     let r = c.loop-i.invariant.reached in
     record {
       e_bound = r.inside;
-      by_index = reached_first a.nodes.now a.wires.now a.jumpers.now a.stage c.requires.list_accepted c.loop-i.i c.loop-i.e r;
+      by_index = reached_first _ _ _ _ (accepted_of a.net) c.loop-i.i c.loop-i.e r;
     }
 
 pub take_wire-at-requires : goal.take_wire-at-requires
@@ -30,12 +31,12 @@ take_wire-at-requires c =
     let v = c.loop-i.invariant in
     let n = c.entries_end-end.ensures in
     record {
-      list_accepted = c.requires.list_accepted;
       i_bound = (
         omega (arith, c.node_count-i-end.ensures),
-        reached_wire a.nodes.now a.wires.now a.jumpers.now a.stage c.requires.list_accepted c.loop-i.i c.loop-i.e c.entries_end-end.result v.reached n.0 n.1 n.2 n.3,
+        reached_wire _ _ _ _ (accepted_of a.net) c.loop-i.i c.loop-i.e c.entries_end-end.result v.reached n.0 n.1 n.2 n.3,
       );
-      nodes_in_bounds = (omega (arith, c.requires.nodes_in_bounds.0), λ w os j. omega (arith, c.requires.nodes_in_bounds.1 w os j));
+      nodes_in_bounds = omega (arith, c.requires.nodes_in_bounds);
+      records_fit = λ w os j. omega (arith, c.requires.records_fit w os j);
       held_below = v.held;
     }
 
@@ -44,12 +45,12 @@ loop-i-preserved c =
     let a = c.args in
     let v = c.loop-i.invariant in
     let n = c.entries_end-end.ensures in
-    let w = reached_wire a.nodes.now a.wires.now a.jumpers.now a.stage c.requires.list_accepted c.loop-i.i c.loop-i.e c.entries_end-end.result v.reached n.0 n.1 n.2 n.3 in
+    let w = reached_wire _ _ _ _ (accepted_of a.net) c.loop-i.i c.loop-i.e c.entries_end-end.result v.reached n.0 n.1 n.2 n.3 in
     let t = c.take_wire-at.ensures in
     record {
-      reached = reached_next a.nodes.now a.wires.now a.jumpers.now a.stage c.requires.list_accepted c.loop-i.i c.loop-i.e c.entries_end-end.result w;
+      reached = reached_next _ _ _ _ (accepted_of a.net) c.loop-i.i c.loop-i.e c.entries_end-end.result w;
       held = t.0;
-      behind = taken_rest a.out.now c.requires.list_accepted v.held t.0 v.behind t.1;
+      behind = taken_rest a.out.now (accepted_of a.net) v.held t.0 v.behind t.1;
     }
 
 pub returns : goal.returns
@@ -57,6 +58,6 @@ returns c =
     λ version os j.
     let a = c.args in
     let v = c.loop-i.invariant in
-    let all : c.loop-i.i ≡ node_count a.nodes.now = omega (arith, c.node_count-i-end.ensures) in
-    taken_all version a.nodes.now a.wires.now a.jumpers.now os a.stage a.limit j c.loop-i.places c.loop-i.at c.loop-i.out a.out.now
+    let all : c.loop-i.i ≡ node_count a.net.nodes.now = omega (arith, c.node_count-i-end.ensures) in
+    taken_all version a.net.nodes.now a.net.wires.now a.net.jumpers.now os a.net.stage a.limit j c.loop-i.places c.loop-i.at c.loop-i.out a.out.now
     (rw all at (v.held version os j)) v.behind

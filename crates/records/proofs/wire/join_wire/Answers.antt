@@ -37,6 +37,6 @@ returns c =
     let above = same_place a.places.now c.wire_at-wire.ensures.parent in (
       ap (set a.places.now a.i) above,
       placed-joined a.limit (get_or a.places.now c.wire_at-wire.result.parent 0) c.weight_of.result c.node_at.result.flags c.layers_of.result _ _ _ _ a.out.now c.join_record.new.rest above
-          (whole (wire_factor a.wires.now a.i) c.length_of-len.ensures.0 (rw c.wire_at-wire.ensures.factor at c.weight_of.ensures.0)) c.node_at.ensures.flags
+          (whole (wire_factor a.net.wires.now a.i) c.length_of-len.ensures.0 (rw c.wire_at-wire.ensures.factor at c.weight_of.ensures.0)) c.node_at.ensures.flags
           (rw (c.length_of-len.ensures.0, c.wire_at-wire.ensures.layer) at c.layers_of.ensures) c.join_record.ensures,
     )

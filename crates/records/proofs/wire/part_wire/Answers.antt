@@ -58,7 +58,7 @@ start_piece-behind-requires c =
     let a = c.args in
     let mask = rw c.wire_at-wire.ensures.layer at c.mask_of-mask.ensures in
     let buffer =
-    above-joined a.limit a.nodes.now a.wires.now a.jumpers.now a.places.now a.i a.entries.end a.out.now c.join_record.new.rest
+    above-joined a.limit a.net.nodes.now a.net.wires.now a.net.jumpers.now a.places.now a.i a.entries.end a.out.now c.join_record.new.rest
     c.wire_at-wire.ensures.parent c.length_of.ensures.0 c.entry_position-last.ensures (rw c.wire_at-wire.ensures.factor at c.weight_of-end_weight.ensures.0) mask c.join_record.ensures in
     let long = ap length buffer ∙ joined_above_length a.limit _ _ _ _ a.out.now c.requires.wire_ready.above in
     let r = c.requires.wire_ready in
@@ -69,7 +69,7 @@ write_stretches-requires c =
     let a = c.args in
     let mask = rw c.wire_at-wire.ensures.layer at c.mask_of-mask.ensures in
     let buffer =
-    above-joined a.limit a.nodes.now a.wires.now a.jumpers.now a.places.now a.i a.entries.end a.out.now c.join_record.new.rest
+    above-joined a.limit a.net.nodes.now a.net.wires.now a.net.jumpers.now a.places.now a.i a.entries.end a.out.now c.join_record.new.rest
     c.wire_at-wire.ensures.parent c.length_of.ensures.0 c.entry_position-last.ensures (rw c.wire_at-wire.ensures.factor at c.weight_of-end_weight.ensures.0) mask c.join_record.ensures in
     let long = ap length buffer ∙ joined_above_length a.limit _ _ _ _ a.out.now c.requires.wire_ready.above in
     let r = c.requires.wire_ready in
@@ -84,20 +84,20 @@ pub returns : goal.returns
 returns c =
     let z = c.write_stretches in
     let a = c.args in
-    let w = wire_factor a.wires.now a.i in
+    let w = wire_factor a.net.wires.now a.i in
     let t = c.requires.entries_ready in
     let mask = rw c.wire_at-wire.ensures.layer at c.mask_of-mask.ensures in
     let buffer =
-    above-joined a.limit a.nodes.now a.wires.now a.jumpers.now a.places.now a.i a.entries.end a.out.now c.join_record.new.rest
+    above-joined a.limit a.net.nodes.now a.net.wires.now a.net.jumpers.now a.places.now a.i a.entries.end a.out.now c.join_record.new.rest
     c.wire_at-wire.ensures.parent c.length_of.ensures.0 c.entry_position-last.ensures (rw c.wire_at-wire.ensures.factor at c.weight_of-end_weight.ensures.0) mask c.join_record.ensures in
     let long = ap length buffer ∙ joined_above_length a.limit _ _ _ _ a.out.now c.requires.wire_ready.above in
-    let q = fields-length a.i 0 (entry_position a.jumpers.now a.entries.start * w) (with_harm a.limit (entry_position a.jumpers.now a.entries.start * w) (node_flags a.nodes.now a.i)) (2 ^ (wire_layer a.wires.now a.i - 1)) in
-    let r = stretches-length a.jumpers.now a.i w (wire_layer a.wires.now a.i) a.entries.start (a.entries.end - a.entries.start - 1) in (
+    let q = fields-length a.i 0 (entry_position a.net.jumpers.now a.entries.start * w) (with_harm a.limit (entry_position a.net.jumpers.now a.entries.start * w) (node_flags a.net.nodes.now a.i)) (2 ^ (wire_layer a.net.wires.now a.i - 1)) in
+    let r = stretches-length a.net.jumpers.now a.i w (wire_layer a.net.wires.now a.i) a.entries.start (a.entries.end - a.entries.start - 1) in (
       omega (arith, z.ensures.0, c.start_piece-behind.ensures.0, t.some),
       c.start_piece-behind.ensures.1,
       behind-place a.at c.start_piece-behind.result
           (same-fields a.limit a.i (rw (c.wire_at-wire.ensures.factor, c.entry_position-first.ensures) at c.weight_of.ensures.0) c.node_at.ensures.flags mask)
-          (same-stretches a.jumpers.now a.i a.entries.start (a.entries.end - a.entries.start - 1) c.wire_at-wire.ensures.factor c.wire_at-wire.ensures.layer)
+          (same-stretches a.net.jumpers.now a.i a.entries.start (a.entries.end - a.entries.start - 1) c.wire_at-wire.ensures.factor c.wire_at-wire.ensures.layer)
           buffer (omega (arith, c.start_piece-behind.ensures.0, q)) (omega (arith, t.some, c.requires.room, q, r, long, ap length buffer))
           c.start_piece-behind.ensures.2 z.ensures.1,
     )

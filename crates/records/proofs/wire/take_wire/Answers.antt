@@ -6,40 +6,41 @@ use mathlib.Core.List.{List}
 use Rattle.std.proofs.Common.{arith}
 use Rattle.std.proofs.lemmas.Bool.Decides.{nat_tests}
 use lib.ListN.{length}
-use Rattle.laws.specs.Numbers.{Bytes}
 use Rattle.net.specs.Net.{node_count}
-use Rattle.records.specs.ListRight.{ListRight, ListAccepted}
+use Rattle.records.specs.declared.NetWithJumpers.{NetWithJumpers}
+use Rattle.records.specs.ListRight.{ListRight}
 use Rattle.records.specs.ListRights.{stored_of, node-small, entries_ready}
-use Rattle.records.specs.Held.{HeldBelow, RecordsFit}
+use Rattle.records.specs.NetWithJumpers.{accepted_of, HeldAtNet, RecordsFit}
 use Rattle.records.specs.Taken.{ListReady, absent-room, taken_absent, taken_ready, taken_joined, cut-room, taken_cut, taken_wire}
 use Rattle.records.proofs.wire.take_wire.Goals as goal
 
 -- what the call may rely on, whatever obstacles the net and the list are accepted with, and with those that they are accepted with
-module _ (ns ws list : List ℕ) (k limit i : ℕ) (places : List ℕ) (at : ℕ) (out : List ℕ) (below : i < node_count ns) (room : node_count ns ≤ length places)
-    (fit : RecordsFit ns ws k list limit out) (held : HeldBelow ns ws k list limit i places at out) (nodes : Bytes ns) (wires : Bytes ws)
+module _ (net : NetWithJumpers) (limit i : ℕ) (places : List ℕ) (at : ℕ) (out : List ℕ) (below : i < node_count net.nodes.now)
+    (room : node_count net.nodes.now ≤ length places) (fit : RecordsFit net limit out) (held : HeldAtNet net limit i places at out)
   where
-    ready : (v : ℕ) (os : List ℕ) → ListRight v ns ws k list os → ListReady v ns ws list os k limit i places at out
-    ready v os j = record { right = j; nodes = nodes; wires = wires; below = below; room = room; fit = fit v os j; held = held v os j }
+    ready : (v : ℕ) (os : List ℕ) → ListRight v net.nodes.now net.wires.now net.stage net.jumpers.now os →
+        ListReady v net.nodes.now net.wires.now net.jumpers.now os net.stage limit i places at out
+    ready v os j = record { right = j; nodes = net.bytes.0; wires = net.bytes.1; below = below; room = room; fit = fit v os j; held = held v os j }
 
-    ready_here : (p : ListAccepted ns ws k list) → ListReady p.0 ns ws list p.1 k limit i places at out
-    ready_here p = ready p.0 p.1 p.2
+    ready_here : ListReady (accepted_of net).0 net.nodes.now net.wires.now net.jumpers.now (accepted_of net).1 net.stage limit i places at out
+    ready_here = ready (accepted_of net).0 (accepted_of net).1 (accepted_of net).2
 
 pub is_present-requires : goal.is_present-requires
 is_present-requires c =
     let a = c.args in
-    stored_of a.nodes.now a.wires.now a.jumpers.now a.stage c.requires.list_accepted a.i c.requires.i_bound.0
+    stored_of _ _ _ _ (accepted_of a.net) a.i c.requires.i_bound.0
 
 pub start_piece-requires : goal.start_piece-requires
 start_piece-requires c =
     let a = c.args in
     let r = c.requires in
     let here =
-    ready_here a.nodes.now a.wires.now a.jumpers.now a.stage a.limit a.i a.places.now a.at a.out.now
-    r.i_bound.0 r.nodes_in_bounds.0 r.nodes_in_bounds.1 r.held_below (λ n. omega (arith, c.type_inv.nodes n)) (λ n. omega (arith, c.type_inv.wires n)) r.list_accepted in
+    ready_here a.net a.limit a.i a.places.now a.at a.out.now
+    r.i_bound.0 r.nodes_in_bounds r.records_fit r.held_below in
     let h = r.i_bound.0 in (
-      node-small a.nodes.now a.wires.now a.jumpers.now a.stage r.list_accepted a.i h,
-      omega (arith, h, r.nodes_in_bounds.0),
-      omega (arith, c.node_at.ensures.flags, r.list_accepted.2.right.flags a.i h),
+      node-small _ _ _ _ (accepted_of a.net) a.i h,
+      omega (arith, h, r.nodes_in_bounds),
+      omega (arith, c.node_at.ensures.flags, (accepted_of a.net).2.right.flags a.i h),
       absent-room here (sym c.is_present.ensures ∙ c.if-not-is_present.true),
     )
 
@@ -48,10 +49,10 @@ returns-then-not-is_present c =
     let a = c.args in
     let r = c.requires in
     let all =
-    ready a.nodes.now a.wires.now a.jumpers.now a.stage a.limit a.i a.places.now a.at a.out.now
-    r.i_bound.0 r.nodes_in_bounds.0 r.nodes_in_bounds.1 r.held_below (λ n. omega (arith, c.type_inv.nodes n)) (λ n. omega (arith, c.type_inv.wires n)) in
+    ready a.net a.limit a.i a.places.now a.at a.out.now
+    r.i_bound.0 r.nodes_in_bounds r.records_fit r.held_below in
     let e = c.start_piece.ensures in
-    taken_wire r.list_accepted
+    taken_wire (accepted_of a.net)
     (λ v os j. taken_absent (all v os j) (sym c.is_present.ensures ∙ c.if-not-is_present.true) c.node_at.result.flags c.start_piece.result c.node_at.ensures.flags e.0 e.1 e.2)
 
 pub join_wire-requires : goal.join_wire-requires
@@ -59,8 +60,8 @@ join_wire-requires c =
     let a = c.args in
     let r = c.requires in
     let here =
-    ready_here a.nodes.now a.wires.now a.jumpers.now a.stage a.limit a.i a.places.now a.at a.out.now
-    r.i_bound.0 r.nodes_in_bounds.0 r.nodes_in_bounds.1 r.held_below (λ n. omega (arith, c.type_inv.nodes n)) (λ n. omega (arith, c.type_inv.wires n)) r.list_accepted in
+    ready_here a.net a.limit a.i a.places.now a.at a.out.now
+    r.i_bound.0 r.nodes_in_bounds r.records_fit r.held_below in
     taken_ready here (sym c.is_present.ensures ∙ c.if-not-is_present.false)
 
 pub returns-then-is_empty : goal.returns-then-is_empty
@@ -68,10 +69,10 @@ returns-then-is_empty c =
     let a = c.args in
     let r = c.requires in
     let all =
-    ready a.nodes.now a.wires.now a.jumpers.now a.stage a.limit a.i a.places.now a.at a.out.now
-    r.i_bound.0 r.nodes_in_bounds.0 r.nodes_in_bounds.1 r.held_below (λ n. omega (arith, c.type_inv.nodes n)) (λ n. omega (arith, c.type_inv.wires n)) in
+    ready a.net a.limit a.i a.places.now a.at a.out.now
+    r.i_bound.0 r.nodes_in_bounds r.records_fit r.held_below in
     let e = c.join_wire.ensures in
-    taken_wire r.list_accepted
+    taken_wire (accepted_of a.net)
     (λ v os j. taken_joined (all v os j) (sym c.is_present.ensures ∙ c.if-not-is_present.false) a.entries.start a.entries.end r.i_bound.1 (grind (arith, nat_tests, r.i_bound.1.ordered, c.if-is_empty.ensures)) e.0 e.1)
 
 pub part_wire-requires : goal.part_wire-requires
@@ -79,13 +80,13 @@ part_wire-requires c =
     let a = c.args in
     let r = c.requires in
     let here =
-    ready_here a.nodes.now a.wires.now a.jumpers.now a.stage a.limit a.i a.places.now a.at a.out.now
-    r.i_bound.0 r.nodes_in_bounds.0 r.nodes_in_bounds.1 r.held_below (λ n. omega (arith, c.type_inv.nodes n)) (λ n. omega (arith, c.type_inv.wires n)) r.list_accepted in
+    ready_here a.net a.limit a.i a.places.now a.at a.out.now
+    r.i_bound.0 r.nodes_in_bounds r.records_fit r.held_below in
     let o = r.i_bound.1 in
     let some : c.args.entries.start < c.args.entries.end = grind (arith, nat_tests, c.if-is_empty.ensures) in
     record {
       wire_ready = taken_ready here (sym c.is_present.ensures ∙ c.if-not-is_present.false);
-      entries_ready = entries_ready a.nodes.now a.wires.now a.jumpers.now a.stage r.list_accepted a.i r.i_bound.0 a.entries.start a.entries.end o some;
+      entries_ready = entries_ready _ _ _ _ (accepted_of a.net) a.i r.i_bound.0 a.entries.start a.entries.end o some;
       room = cut-room here (sym c.is_present.ensures ∙ c.if-not-is_present.false) a.entries.start a.entries.end o some;
     }
 
@@ -94,9 +95,9 @@ returns c =
     let a = c.args in
     let r = c.requires in
     let all =
-    ready a.nodes.now a.wires.now a.jumpers.now a.stage a.limit a.i a.places.now a.at a.out.now
-    r.i_bound.0 r.nodes_in_bounds.0 r.nodes_in_bounds.1 r.held_below (λ n. omega (arith, c.type_inv.nodes n)) (λ n. omega (arith, c.type_inv.wires n)) in
+    ready a.net a.limit a.i a.places.now a.at a.out.now
+    r.i_bound.0 r.nodes_in_bounds r.records_fit r.held_below in
     let e = c.part_wire.ensures in
     let some : c.args.entries.start < c.args.entries.end = grind (arith, nat_tests, c.if-is_empty.ensures) in
-    taken_wire r.list_accepted
+    taken_wire (accepted_of a.net)
     (λ v os j. taken_cut (all v os j) (sym c.is_present.ensures ∙ c.if-not-is_present.false) a.entries.start a.entries.end r.i_bound.1 some c.part_wire.result e.0 e.1 e.2)

@@ -11,16 +11,15 @@ loop-i-init c =
     let a = c.args in
     let z = c.requires.at_most in
     record {
-      reached = reached_none a.jumpers.now;
+      reached = reached_none a.net.jumpers.now;
       light = z.0;
-      gathered = gathered_none a.nodes.now a.wires.now a.jumpers.now a.stage a.pieces.now z.0 z.1 z.2;
+      gathered = gathered_none a.net.nodes.now a.net.wires.now a.net.jumpers.now a.net.stage a.pieces.now z.0 z.1 z.2;
     }
 
 pub gather_wire-e-requires : goal.gather_wire-e-requires
 gather_wire-e-requires c =
     let v = c.loop-i.invariant in
     record {
-      list_accepted = c.requires.list_accepted;
       i_bound = (omega (arith, c.node_count-i-end.ensures), v.reached);
       roomy = (omega (arith, c.requires.roomy), v.light);
       gathered_below = v.gathered;
@@ -31,5 +30,5 @@ loop-i-preserved c = let t = c.gather_wire-e.ensures in record { reached = t.0; 
 
 pub returns : goal.returns
 returns c =
-    let all : c.loop-i.i ≡ node_count c.args.nodes.now = omega (arith, c.node_count-i-end.ensures) in
+    let all : c.loop-i.i ≡ node_count c.args.net.nodes.now = omega (arith, c.node_count-i-end.ensures) in
     rw all at c.loop-i.invariant.gathered

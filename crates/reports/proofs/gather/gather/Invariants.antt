@@ -4,13 +4,13 @@ use Rattle.std.proofs.Common.{◌*◌}
 use Rattle.net.specs.Limits.{wire_weight_bound}
 use Rattle.records.specs.Reached.{Reached}
 use Rattle.reports.specs.Gathered.{weight}
-use Rattle.reports.specs.ListRight.{GatheredBelow, AtMost}
+use Rattle.reports.specs.ListRight.{GatheredAtNet, AtMost}
 use Rattle.reports.proofs.gather.gather.Given as goal
 
 abbrev pub invariant-loop-i : goal.invariant-loop-i
 invariant-loop-i l =
     record {
-      reached : Reached l.jumpers l.i l.e;
+      reached : Reached l.net.jumpers.now l.i l.e;
       light : AtMost (l.i * (2 * wire_weight_bound)) (weight l.pieces);
-      gathered : GatheredBelow l.nodes l.wires l.stage l.jumpers l.i l.pieces;
+      gathered : GatheredAtNet l.net l.i l.pieces;
     }

@@ -8,6 +8,7 @@ use Rattle.reports.specs.Gathering.{Parted}
 use Rattle.records.specs.ListRights.{entry-inside, stored_of}
 use Rattle.reports.specs.ListRights.{step-absent, step-joined, step_cut, wire_ready, at_more}
 use Rattle.records.specs.Reached.{reached_wire, reached_next}
+use Rattle.records.specs.NetWithJumpers.{accepted_of}
 use Rattle.reports.proofs.gather.gather_wire.Goals as goal
 
 parted-at : {ns ws : List ℕ} {i first last a b : ℕ} {p q : List Piece} → first ≡ a → last ≡ b → Parted ns ws i first last p q → Parted ns ws i a b p q
@@ -18,36 +19,36 @@ entries_end-end-requires c = c.requires.i_bound.1.inside
 
 pub is_present-requires : goal.is_present-requires
 is_present-requires c =
-    stored_of c.args.nodes.now c.args.wires.now c.args.jumpers.now c.args.stage c.requires.list_accepted c.args.i c.requires.i_bound.0
+    stored_of _ _ _ _ (accepted_of c.args.net) c.args.i c.requires.i_bound.0
 
 pub returns-then-not-is_present : goal.returns-then-not-is_present
 returns-then-not-is_present c =
     let node = c.node_at in
     let a = c.args in
     let n = c.entries_end-end.ensures in
-    let w = reached_wire a.nodes.now a.wires.now a.jumpers.now a.stage c.requires.list_accepted a.i a.e c.entries_end-end.result c.requires.i_bound.1 n.0 n.1 n.2 n.3 in
+    let w = reached_wire _ _ _ _ (accepted_of c.args.net) a.i a.e c.entries_end-end.result c.requires.i_bound.1 n.0 n.1 n.2 n.3 in
     let absent = sym c.is_present.ensures ∙ c.if-not-is_present.true in (
-      reached_next a.nodes.now a.wires.now a.jumpers.now a.stage c.requires.list_accepted a.i a.e c.entries_end-end.result w,
+      reached_next _ _ _ _ (accepted_of c.args.net) a.i a.e c.entries_end-end.result w,
       rw c.name_node.ensures.kept.0 (at_more (a.i * (2 * wire_weight_bound)) ((a.i + 1) * (2 * wire_weight_bound)) (weight a.pieces.now) (omega arith) c.requires.roomy.1),
       λ v os j.
-          step-absent v a.nodes.now a.wires.now a.jumpers.now os a.stage j a.i c.requires.i_bound.0 (c.requires.gathered_below v os j)
+          step-absent v a.net.nodes.now a.net.wires.now a.net.jumpers.now os a.net.stage j a.i c.requires.i_bound.0 (c.requires.gathered_below v os j)
           node.result.flags node.ensures.flags absent c.name_node.ensures.named c.name_node.ensures.kept.0 c.name_node.ensures.kept.1,
     )
 
 pub join_wire-requires : goal.join_wire-requires
 join_wire-requires c =
     let a = c.args in
-    wire_ready a.nodes.now a.wires.now a.jumpers.now a.stage c.requires.list_accepted a.i c.requires.i_bound.0 c.requires.roomy.0 c.requires.roomy.1 c.requires.gathered_below (sym c.is_present.ensures ∙ c.if-not-is_present.false)
+    wire_ready _ _ _ _ (accepted_of c.args.net) a.i c.requires.i_bound.0 c.requires.roomy.0 c.requires.roomy.1 c.requires.gathered_below (sym c.is_present.ensures ∙ c.if-not-is_present.false)
 
 pub returns-then-e-end : goal.returns-then-e-end
 returns-then-e-end c =
     let a = c.args in
     let n = c.entries_end-end.ensures in
-    let w = reached_wire a.nodes.now a.wires.now a.jumpers.now a.stage c.requires.list_accepted a.i a.e c.entries_end-end.result c.requires.i_bound.1 n.0 n.1 n.2 n.3 in (
-      reached_next a.nodes.now a.wires.now a.jumpers.now a.stage c.requires.list_accepted a.i a.e c.entries_end-end.result w,
+    let w = reached_wire _ _ _ _ (accepted_of c.args.net) a.i a.e c.entries_end-end.result c.requires.i_bound.1 n.0 n.1 n.2 n.3 in (
+      reached_next _ _ _ _ (accepted_of c.args.net) a.i a.e c.entries_end-end.result w,
       c.join_wire.ensures.1,
       λ v os j.
-          step-joined v a.nodes.now a.wires.now a.jumpers.now os a.stage j a.i c.requires.i_bound.0 (c.requires.gathered_below v os j)
+          step-joined v a.net.nodes.now a.net.wires.now a.net.jumpers.now os a.net.stage j a.i c.requires.i_bound.0 (c.requires.gathered_below v os j)
           (sym c.is_present.ensures ∙ c.if-not-is_present.false) a.e c.entries_end-end.result w c.if-e-end.true c.join_wire.ensures.0,
     )
 
@@ -55,7 +56,7 @@ pub entry_position-first-requires : goal.entry_position-first-requires
 entry_position-first-requires c =
     let a = c.args in
     let n = c.entries_end-end.ensures in
-    let w = reached_wire a.nodes.now a.wires.now a.jumpers.now a.stage c.requires.list_accepted a.i a.e c.entries_end-end.result c.requires.i_bound.1 n.0 n.1 n.2 n.3 in
+    let w = reached_wire _ _ _ _ (accepted_of c.args.net) a.i a.e c.entries_end-end.result c.requires.i_bound.1 n.0 n.1 n.2 n.3 in
     let some : c.args.e < c.entries_end-end.result = omega (arith, w.ordered, c.if-e-end.false) in
     omega (arith, some, w.inside)
 
@@ -63,7 +64,7 @@ pub overflow_sub-end : goal.overflow_sub-end
 overflow_sub-end c =
     let a = c.args in
     let n = c.entries_end-end.ensures in
-    let w = reached_wire a.nodes.now a.wires.now a.jumpers.now a.stage c.requires.list_accepted a.i a.e c.entries_end-end.result c.requires.i_bound.1 n.0 n.1 n.2 n.3 in
+    let w = reached_wire _ _ _ _ (accepted_of c.args.net) a.i a.e c.entries_end-end.result c.requires.i_bound.1 n.0 n.1 n.2 n.3 in
     let some : c.args.e < c.entries_end-end.result = omega (arith, w.ordered, c.if-e-end.false) in
     omega (arith, some)
 
@@ -71,7 +72,7 @@ pub entry_position-last-requires : goal.entry_position-last-requires
 entry_position-last-requires c =
     let a = c.args in
     let n = c.entries_end-end.ensures in
-    let w = reached_wire a.nodes.now a.wires.now a.jumpers.now a.stage c.requires.list_accepted a.i a.e c.entries_end-end.result c.requires.i_bound.1 n.0 n.1 n.2 n.3 in
+    let w = reached_wire _ _ _ _ (accepted_of c.args.net) a.i a.e c.entries_end-end.result c.requires.i_bound.1 n.0 n.1 n.2 n.3 in
     let some : c.args.e < c.entries_end-end.result = omega (arith, w.ordered, c.if-e-end.false) in
     omega (arith, some, w.inside)
 
@@ -79,11 +80,11 @@ pub part_wire-requires : goal.part_wire-requires
 part_wire-requires c =
     let a = c.args in
     let n = c.entries_end-end.ensures in
-    let w = reached_wire a.nodes.now a.wires.now a.jumpers.now a.stage c.requires.list_accepted a.i a.e c.entries_end-end.result c.requires.i_bound.1 n.0 n.1 n.2 n.3 in
+    let w = reached_wire _ _ _ _ (accepted_of c.args.net) a.i a.e c.entries_end-end.result c.requires.i_bound.1 n.0 n.1 n.2 n.3 in
     let some : c.args.e < c.entries_end-end.result = omega (arith, w.ordered, c.if-e-end.false) in
     let end = c.entries_end-end.result in
-    let inside = entry-inside c.requires.list_accepted.0 a.nodes.now a.wires.now a.jumpers.now c.requires.list_accepted.1 a.stage c.requires.list_accepted.2 a.i a.e end w in record {
-      wire_ready = wire_ready a.nodes.now a.wires.now a.jumpers.now a.stage c.requires.list_accepted a.i c.requires.i_bound.0 c.requires.roomy.0 c.requires.roomy.1 c.requires.gathered_below (sym c.is_present.ensures ∙ c.if-not-is_present.false);
+    let inside = entry-inside (accepted_of c.args.net).0 a.net.nodes.now a.net.wires.now a.net.jumpers.now (accepted_of c.args.net).1 a.net.stage (accepted_of c.args.net).2 a.i a.e end w in record {
+      wire_ready = wire_ready _ _ _ _ (accepted_of c.args.net) a.i c.requires.i_bound.0 c.requires.roomy.0 c.requires.roomy.1 c.requires.gathered_below (sym c.is_present.ensures ∙ c.if-not-is_present.false);
       first_bound = (
         omega (arith, c.entry_position-first.ensures, (inside a.e (omega arith) some).1),
         omega (arith, c.entry_position-last.ensures, (inside (end - 1) (omega (arith, some)) (omega (arith, some))).1),
@@ -94,12 +95,12 @@ pub returns : goal.returns
 returns c =
     let a = c.args in
     let n = c.entries_end-end.ensures in
-    let w = reached_wire a.nodes.now a.wires.now a.jumpers.now a.stage c.requires.list_accepted a.i a.e c.entries_end-end.result c.requires.i_bound.1 n.0 n.1 n.2 n.3 in
+    let w = reached_wire _ _ _ _ (accepted_of c.args.net) a.i a.e c.entries_end-end.result c.requires.i_bound.1 n.0 n.1 n.2 n.3 in
     let some : c.args.e < c.entries_end-end.result = omega (arith, w.ordered, c.if-e-end.false) in (
-      reached_next a.nodes.now a.wires.now a.jumpers.now a.stage c.requires.list_accepted a.i a.e c.entries_end-end.result w,
+      reached_next _ _ _ _ (accepted_of c.args.net) a.i a.e c.entries_end-end.result w,
       c.part_wire.ensures.1,
       λ v os j.
-          step_cut v a.nodes.now a.wires.now a.jumpers.now os a.stage j a.i c.requires.i_bound.0 (c.requires.gathered_below v os j)
+          step_cut v a.net.nodes.now a.net.wires.now a.net.jumpers.now os a.net.stage j a.i c.requires.i_bound.0 (c.requires.gathered_below v os j)
           (sym c.is_present.ensures ∙ c.if-not-is_present.false) a.e c.entries_end-end.result w some
           (parted-at c.entry_position-first.ensures c.entry_position-last.ensures c.part_wire.ensures.0),
     )

@@ -19,8 +19,8 @@ add_steps-requires c =
     let a = c.args in
     let above = lowest-at a.pieces.now c.wire_at-wire.ensures.parent in
     let len = c.length_of-len in
-    let most = c.requires.light (get_or (lowest a.pieces.now) (wire_parent a.wires.now a.i) 0) in
-    let kept = ap (λ l. get_or l (get_or (lowest a.pieces.now) (wire_parent a.wires.now a.i) 0) 0) c.name_node.ensures.kept.0 in
+    let most = c.requires.light (get_or (lowest a.pieces.now) (wire_parent a.net.wires.now a.i) 0) in
+    let kept = ap (λ l. get_or l (get_or (lowest a.pieces.now) (wire_parent a.net.wires.now a.i) 0) 0) c.name_node.ensures.kept.0 in
     record {
       h_in_bounds = omega arith;
       le_layer = (omega (arith, c.wire_at-wire.ensures.layer, c.requires.low), omega (arith, c.wire_at-wire.ensures.layer, c.requires.high));

@@ -39,7 +39,7 @@ add_steps-requires-2 c =
     let between =
     added-small (a.i * (2 * wire_weight_bound)) a.i a.first c.wire_at-wire.result.factor c.wire_at-wire.result.layer r.light (rw (node.kept.0, node.kept.1) at c.add_steps.ensures.added)
     (omega (arith, c.requires.first_bound.0, len.ensures.0, len.ensures.1)) (omega arith) in
-    let most = between (get_or (lowest a.pieces.now) (wire_parent a.wires.now a.i) 0) in
+    let most = between (get_or (lowest a.pieces.now) (wire_parent a.net.wires.now a.i) 0) in
     record {
       h_in_bounds = rw above (omega (arith, r.above, r.room));
       le_layer = (omega (arith, c.wire_at-wire.ensures.layer, r.low), omega (arith, c.wire_at-wire.ensures.layer, r.high));

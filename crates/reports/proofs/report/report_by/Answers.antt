@@ -11,7 +11,9 @@ use Rattle.net.specs.Call.{net_at}
 use Rattle.net.specs.Calls.{call_stage}
 use Rattle.net.specs.Answered.{met_refusal, answered_err, answered_ok}
 use Rattle.reports.specs.Promise.{piece_count, pieces_buffer}
-use Rattle.reports.specs.FromFile.{list_at, right_here, right_of, stage-of, counted}
+use Rattle.laws.specs.Numbers.{Bytes}
+use Rattle.records.specs.NoObstacles.{accepted_without}
+use Rattle.reports.specs.FromFile.{section-bytes, list_at, right_here, right_of, stage-of, counted}
 use Rattle.reports.specs.Reporting.{report_fits, call_refused_answer, call_refused_buffer, list_refused_answer, list_refused_buffer, short-answer, short-buffer, done-answer, done-buffer}
 use Rattle.reports.proofs.report.report_by.Goals as goal
 
@@ -44,8 +46,8 @@ returns-in_err-check g c =
       list_refused_buffer a.stage a.file.now a.jumpers.now a.limit a.out.now u m,
     )
 
-pub piece_count-records-requires : goal.piece_count-records-requires
-piece_count-records-requires g c =
+pub invariant_of-with_jumpers : goal.invariant_of-with_jumpers
+invariant_of-with_jumpers g c =
     let a = c.args in
     let n = c.in_ok-net.ensures.net in
     let zero = ap (λ (v : Verdict). v.number) (sym c.in_ok-net.ensures.verdict) in
@@ -53,7 +55,11 @@ piece_count-records-requires g c =
     let right = right_here a.stage a.file.now a.jumpers.now zero e refl in
     let v = version_of a.file.now in
     let os = obstacles_of a.file.now in
-    (v, os, right_of n.1 n.2 v os a.stage right)
+    let file : Bytes a.file.now = λ i. omega (arith, c.type_inv.file i) in
+    record {
+      accepted = accepted_without (v, os, right_of n.1 n.2 v os a.stage right);
+      bytes = (rw n.1 (section-bytes a.file.now file 0), rw n.2 (section-bytes a.file.now file 1));
+    }
 
 pub returns-then-out-needed : goal.returns-then-out-needed
 returns-then-out-needed g c =
@@ -70,18 +76,8 @@ returns-then-out-needed g c =
     )
 
 pub write-requires : goal.write-requires
-write-requires g c =
-    let a = c.args in
-    let n = c.in_ok-net.ensures.net in
-    let zero = ap (λ (v : Verdict). v.number) (sym c.in_ok-net.ensures.verdict) in
-    let e = list_at a.stage a.file.now a.jumpers.now n.1 n.2 n.0 n.3 c.in_ok-check.ensures in
-    let right = right_here a.stage a.file.now a.jumpers.now zero e refl in
-    let v = version_of a.file.now in
-    let os = obstacles_of a.file.now in
-    record {
-      list_accepted = (v, os, right_of n.1 n.2 v os a.stage right);
-      records_fit = λ v os j. report_fits (stage_of v _ _ os a.stage) a.limit a.jumpers.now (c.piece_count-records.ensures.0 v os j) (omega (arith, c.if-out-needed.false));
-    }
+write-requires g c v os j =
+    report_fits (stage_of v _ _ os c.args.stage) c.args.limit c.args.jumpers.now (c.piece_count-records.ensures.0 v os j) (omega (arith, c.if-out-needed.false))
 
 pub returns : goal.returns
 returns g c =

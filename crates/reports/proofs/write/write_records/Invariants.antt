@@ -12,8 +12,8 @@ use Rattle.reports.proofs.write.write_records.Given as goal
 abbrev pub invariant-loop-i : goal.invariant-loop-i
 invariant-loop-i l =
     record {
-      reached : Reached l.jumpers l.i l.e;
-      written : (version : ℕ) (os : List ℕ) → ListRight version l.nodes l.wires l.stage l.jumpers os →
-          (l.at ≡ length (records_below (stage_of version l.nodes l.wires os l.stage) l.limit (set_of l.jumpers) l.i))
-          × (l.out ≡ place 0 (records_below (stage_of version l.nodes l.wires os l.stage) l.limit (set_of l.jumpers) l.i) l.initial.out);
+      reached : Reached l.net.jumpers.now l.i l.e;
+      written : (version : ℕ) (os : List ℕ) → ListRight version l.net.nodes.now l.net.wires.now l.net.stage l.net.jumpers.now os →
+          (l.at ≡ length (records_below (stage_of version l.net.nodes.now l.net.wires.now os l.net.stage) l.limit (set_of l.net.jumpers.now) l.i))
+          × (l.out ≡ place 0 (records_below (stage_of version l.net.nodes.now l.net.wires.now os l.net.stage) l.limit (set_of l.net.jumpers.now) l.i) l.initial.out);
     }

@@ -9,4 +9,4 @@ pub returns : goal.returns
 returns c =
     λ v os j.
     let a = c.args in
-    c.write_records.ensures v os j ∙ pieces_over (stage_of v a.nodes.now a.wires.now os a.stage) a.limit a.jumpers.now a.out.now
+    c.write_records.ensures v os j ∙ pieces_over (stage_of v a.net.nodes.now a.net.wires.now os a.net.stage) a.limit a.net.jumpers.now a.out.now
