@@ -12,6 +12,9 @@ use Rattle.lists.specs.EntriesChecked.{list_none}
 use Rattle.records.specs.ListRight.{ListRight, AtAccepted}
 use Rattle.reports.specs.Promise.{piece_count}
 
+pub numbered : {r q : Verdict} → r ≡ q → r.number ≡ 0 → q.number ≡ 0
+numbered e h = rw e at h
+
 module _ (stage : ℕ) (file list : List ℕ) where
   -- the list's refusal on sections equal to those of the file
   pub list_at : {ns ws os : List ℕ} {v : ℕ} {r : Verdict} → ns ≡ nodes_of file → ws ≡ wires_of file → v ≡ version_of file → os ≡ obstacles_of file →
