@@ -13,6 +13,8 @@ use Rattle.net.specs.Refusal.{none, refusal, met, is_version, answer, write_refu
 use Rattle.net.specs.Answered.{met_refusal}
 use Rattle.net.specs.First.{first_of_lem, rest_of}
 use Rattle.net.specs.Writing.{write_net}
+use Rattle.routes.specs.declared.Route.{Route}
+use Rattle.routes.specs.Table.{RouteRead}
 use Rattle.routes.specs.Nodes.{route_refusal, route_nodes, route_end}
 use Rattle.def.specs.declared.Written.{Written}
 use Rattle.def.specs.Pins.{pins_refusal}
@@ -21,9 +23,17 @@ use Rattle.def.specs.Sectioning.{too_many}
 use Rattle.def.specs.Promise.{def_nodes, def_wires, def_refusal, def_answer, def_buffer}
 
 -- 1 is a version of net files
-first_version : is_version 1 ≡ true
+pub first_version : is_version 1 ≡ true
 unfolding is_version
 first_version = refl
+
+-- the route is met by neither 17 nor 18
+module _ {text : List ℕ} {place : ℕ} {r : Result Route Refusal} (read : RouteRead text place r) {route : Route} (h : r ≡ Ok route) where
+  pub route_unmet : met (route_refusal text place) ≡ false
+  route_unmet = let v = rw h at read.verdict in rw (← v)
+
+  pub route_end_lem : route.end ≡ route_end text place
+  route_end_lem = let i = rw h at read.route in i.end
 
 module _ (text : List ℕ) (place : ℕ) (pins obstacles out : List ℕ) where
   -- what the call answers, and what the lent buffer then holds

@@ -21,14 +21,18 @@ use Rattle.def.specs.Joining.{Routed, Joined, JoinedOne}
 use Rattle.def.specs.Distinct.{stands-alone}
 
 -- the nodes that the table has
-count-few : (n m : ℕ) → Some m ≡ counted n → (m ≡ n) × (n ≤ most_nodes)
+pub count-few : (n m : ℕ) → Some m ≡ counted n → (m ≡ n) × (n ≤ most_nodes)
 count-few n m e =
     by (ltb most_nodes n)
     (λ y. let q = rw y at e in cc)
     (λ z. let q = rw z at e in let l = ltb-false most_nodes n z in (cc, l))
 
-count-many : (n : ℕ) → None ≡ counted n → most_nodes < n
+pub count-many : (n : ℕ) → None ≡ counted n → most_nodes < n
 count-many n e = by (ltb most_nodes n) (λ y. ltb-true most_nodes n y) (λ z. let q = rw z at e in cc)
+
+-- a node stands there if its number is below the count
+pub number-known : (nodes : List Node) (x y layer n count : ℕ) → n ≡ number_on nodes x y layer → count ≡ length nodes → ltb n count ≡ known nodes x y layer
+number-known nodes x y layer n count e h = rw (e, h) (number-below nodes x y layer)
 
 pub routed : {text : List ℕ} {place : ℕ} {r : Route} (nodes : Option (Bor (List Node))) → IsRoute text place r
     → (r.count ≡ None → nodes ≡ None)
@@ -123,7 +127,13 @@ pub joined-start : (nodes : List Node) (pins flags : List ℕ) → ((i : ℕ) �
 unfolding flags_of
 joined-start nodes pins flags z = record { each = λ few i l. z i }
 
--- how many pins there are
+-- which pins there are, and how many
+pub pin-here : (pins : List ℕ) (k : ℕ) → pin_bytes * k < length pins → k < pin_count pins
+pin-here pins k h = omega arith
+
+pub pin-all : (pins : List ℕ) (k : ℕ) → pin_bytes * k ≡ length pins → k ≡ pin_count pins
+pin-all pins k e = omega arith
+
 pub pins-counted : (pins : List ℕ) → div_ceil (length pins) pin_bytes ≡ pin_count pins
 pins-counted pins = omega arith
 

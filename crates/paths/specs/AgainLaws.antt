@@ -78,7 +78,7 @@ module _ {text : List ℕ} {test : Point → Bool} {n k : ℕ} {v : Option ℕ} 
     search_on t q =
         record { sound = rw q (sound-step text p next whole-sound); most = omega arith; rest = rw (looked, t, q) (one-more (first_point test (n - (k + 1)) _)) }
 
-  search_wrong : {w : Wrong} → r ≡ Err w → None ≡ v
+  pub search_wrong : {w : Wrong} → r ≡ Err w → None ≡ v
   search_wrong {w} e = rw (i.rest, e, points_wrong text (suc (length text)) w, first_of_none test (n - k))
 
   pub search_end : {next : ℕ} → r ≡ Ok (End next) → None ≡ v

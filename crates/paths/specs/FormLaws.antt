@@ -32,14 +32,14 @@ number-below w v =
     (λ e. let z : number_of w ≡ v = cc in rw z at (ltb-true _ _ (and_right (digits w) _ (and_right (ltb (length w) 6) _ (and_right (ltb 0 (length w)) _ y))))))
     (λ z. rw z (λ e. cc))
 
-coordinate-below : (before : Option Point) (f : Point → ℕ) → ((p : Point) → before ≡ Some p → f p < 65536)
-    → (w : List ℕ) (v : ℕ) → coordinate (option_map f before) w ≡ Some v → v < 65536
+pub coordinate-below : (before : Option ℕ) → ((b : ℕ) → before ≡ Some b → b < 65536) → (w : List ℕ) (v : ℕ) → coordinate before w ≡ Some v → v < 65536
 unfolding coordinate
-coordinate-below before f r w v = by (same w star_word) (λ y. rw y (repeated before r)) (λ z. rw z (number-below w v))
-  where
-    repeated : (b : Option Point) → ((p : Point) → b ≡ Some p → f p < 65536) → option_map f b ≡ Some v → v < 65536
-    repeated (Some p) q e = let z : f p ≡ v = cc in rw z at (q p refl)
-    repeated None q e = cc
+coordinate-below before r w v = by (same w star_word) (λ y. rw y (r v)) (λ z. rw z (number-below w v))
+
+before-below : (before : Option Point) (f : Point → ℕ) → ((p : Point) → before ≡ Some p → f p < 65536)
+    → (b : ℕ) → option_map f before ≡ Some b → b < 65536
+before-below (Some p) f r b e = let z : f p ≡ b = cc in rw z at (r p refl)
+before-below None f r b e = cc
 
 -- what was read from a place on, where no end may stand, lies behind it and within the text
 abbrev pub Starts : List ℕ → ℕ → Result Read Wrong → Type 0
@@ -118,8 +118,8 @@ module _ (text : List ℕ) where
           omega (arith, (byte_word place 40 h t).0),
           k.2,
           record {
-            x = coordinate-below before (λ p. p.x) (λ p q. (r p q).x) (word_at text x) u e;
-            y = coordinate-below before (λ p. p.y) (λ p q. (r p q).y) (word_at text y) v f;
+            x = coordinate-below _ (before-below before (λ p. p.x) (λ p q. (r p q).x)) (word_at text x) u e;
+            y = coordinate-below _ (before-below before (λ p. p.y) (λ p q. (r p q).y)) (word_at text y) v f;
             layer_low = l.0;
             layer_high = l.1;
           },

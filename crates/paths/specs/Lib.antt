@@ -1,5 +1,6 @@
 -- The root.
 pub mod Form
+pub mod Reading
 pub mod Again
 pub mod FormLaws
 pub mod AgainLaws

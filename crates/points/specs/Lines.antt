@@ -103,11 +103,16 @@ barred_is version nodes wires obstacles i t = rw (point_x_is nodes wires i t, po
 pub first-none : (n r : ℕ) (f : ℕ → Bool) → ((j : ℕ) → j < r → f j ≡ false) → n ≤ r → any n f ≡ false
 first-none n r f before l = any_none n f (λ j h. before j (omega arith))
 
-pub first_any : (version : ℕ) (obstacles : List ℕ) (line : Line) (t : ℕ) (r : Option Obstacle) →
+pub first_any : (n r : ℕ) (f : ℕ → Bool) → ((j : ℕ) → j < r → f j ≡ false) → (r < n → f r ≡ true) → ltb r n ≡ any n f
+first_any n r f before found =
+    by (ltb r n) (λ h. h ∙ sym (any-yes n r f (ltb-true r n h) (found (ltb-true r n h))))
+    (λ h. h ∙ sym (first-none n r f before (ltb-false r n h)))
+
+pub first_barred : (version : ℕ) (obstacles : List ℕ) (line : Line) (t : ℕ) (r : Option Obstacle) →
     MatchOption r (barred_at version obstacles line t ≡ false) (BarredBy version obstacles line t) → is_some r ≡ barred_at version obstacles line t
 unfolding barred_at
-first_any version obstacles line t None h = sym h
-first_any version obstacles line t (Some o) h =
+first_barred version obstacles line t None h = sym h
+first_barred version obstacles line t (Some o) h =
     sym (any-yes (obstacle_count version obstacles) h.k (λ k. bars version obstacles line.layer k (point_on line t).x (point_on line t).y) h.inside h.barring)
 
 -- an obstacle that bars a position is left behind in one step

@@ -22,6 +22,9 @@ section-bytes file b k =
     (λ y i. rw y (lit< tt))
     (λ z. rw z (bytes_take (extent file k) _ (bytes_drop (offset file k) file b)))
 
+pub numbered : {r q : Verdict} → r ≡ q → r.number ≡ 0 → q.number ≡ 0
+numbered e h = rw e at h
+
 module _ (stage : ℕ) (file list : List ℕ) where
   -- the list's refusal on sections equal to those of the file
   pub list_at : {ns ws os : List ℕ} {v : ℕ} {r : Verdict} → ns ≡ nodes_of file → ws ≡ wires_of file → v ≡ version_of file → os ≡ obstacles_of file →

@@ -1,10 +1,11 @@
 -- Which answer each ending of the report gives, and what the lent buffer then holds.
 -- Assumes nothing.
-use Rattle.std.specs.Prelude.{ℕ, ◌*◌, ◌≤◌, ◌<◌, ◌≡◌, true, false, List, length}
-use Rattle.std.proofs.Common.{◌∙◌, zero-add}
+use Rattle.std.specs.Prelude.{ℕ, ◌*◌, ◌≤◌, ◌<◌, ◌≡◌, true, false, List, length, replicate}
+use Rattle.std.proofs.Common.{◌∙◌, le_of_eq, zero-add}
 use borrow.Author.Tests.{lt-ltb, le-ltb}
-use Rattle.laws.specs.Lists.{over}
+use Rattle.laws.specs.Lists.{over, zeros}
 use Rattle.laws.specs.Place.{place}
+use Rattle.reports.specs.ListRight.{AtMost}
 use Rattle.net.specs.Layout.{record_bytes}
 use Rattle.net.specs.Stage.{Stage}
 use Rattle.net.specs.Refusal.{Verdict, none, refusal, met, or_else, lent_refusal, answer}
@@ -14,6 +15,10 @@ use Rattle.pieces.specs.JumperList.{list_refusal, set_of}
 use Rattle.pieces.specs.Report.{report_of}
 use Rattle.pieces.specs.Reports.{report_length}
 use Rattle.reports.specs.Promise.{piece_count, pieces_buffer, report_refusal, report_answer, report_buffer}
+
+-- an array of zeros
+pub zeros-most : (n : ℕ) → AtMost 0 (replicate n 0)
+zeros-most n h = le_of_eq (zeros n h)
 
 -- a refused answer has count 0 whatever is counted
 pub answer-refused : (r : Verdict) (m n : ℕ) → met r ≡ true → answer r m ≡ answer r n

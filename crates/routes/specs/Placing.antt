@@ -3,12 +3,12 @@
 use Prim.Native.Nat.{ℕ, ◌<◌, max}
 use Rattle.std.specs.Prelude.{◌≡◌, refl, Bool, true, false, cond, List, Option, Some, None, eqb, ltb, length}
 use Rattle.std.specs.List.{position_or_len}
-use Rattle.std.proofs.Common.{◌∙◌, sym, arith, ne_eqb, lt-ltb, le-ltb}
+use Rattle.std.proofs.Common.{◌∙◌, sym, arith, eq-eqb, ne_eqb, lt-ltb, le-ltb}
 use Rattle.std.proofs.Math.ListN.{get_or-eq_default}
 use Rattle.std.proofs.lemmas.Bool.{ltb-true, ltb-false}
 use Rattle.std.proofs.lemmas.List.Sums.{position_or_len_is}
 use Rattle.laws.specs.Sum.{any, lowest}
-use Rattle.laws.specs.Sums.{by, and_no_right, and_false, any-no, any_none, lowest-passes, lowest-least, lowest-none, lowest-≤}
+use Rattle.laws.specs.Sums.{by, and_no_right, and_false, any-no, any_none, lowest-passes, lowest_is, lowest-least, lowest-none, lowest-≤}
 use Rattle.paths.specs.declared.Point.{Point}
 use Rattle.routes.specs.declared.Placed.TheVariants.{Refused, Known, New}
 use Rattle.routes.specs.declared.Node.{Node}
@@ -29,6 +29,15 @@ number-below found x y layer = lowest-below (length found) _
 pub lowest_at_below : (found : List Node) (x y : ℕ) → ltb (lowest_at found x y) (length found) ≡ known_at found x y
 unfolding lowest_at known_at
 lowest_at_below found x y = lowest-below (length found) _
+
+-- a search by a number for what passes a test
+module _ (n w : ℕ) (g : ℕ → ℕ) (f : ℕ → Bool) (same : (i : ℕ) → i < n → eqb (g i) w ≡ f i) where
+  pub search_here : (i : ℕ) → i < n → ((j : ℕ) → j < i → g j ≡ w → ⊥) → g i ≡ w → i ≡ lowest n f
+  search_here i l b e =
+      sym (lowest_is n i f l (sym (same i l) ∙ eq-eqb _ _ e) (λ j m. sym (same j (omega arith)) ∙ ne_eqb _ _ (b j m)))
+
+  pub search_none : ((j : ℕ) → j < n → g j ≡ w → ⊥) → n ≡ lowest n f
+  search_none b = sym (lowest-none n f (any_none n f (λ j m. sym (same j m) ∙ ne_eqb _ _ (b j m))))
 
 -- the first node that passes a test has the lowest number
 pub first_passing : (nodes : List Node) (g : Node → Bool) (f : ℕ → Bool) → ((i : ℕ) → i < length nodes → g (node_at nodes i) ≡ f i)
@@ -59,11 +68,24 @@ pub lowest_at_within : (nodes : List Node) (x y : ℕ) → known_at nodes x y �
 unfolding known_at lowest_at
 lowest_at_within nodes x y k = (lowest-passes (length nodes) _ k).0
 
-module _ (nodes : List Node) (last : ℕ) (p : Point) where
-  unknown : known_at nodes p.x p.y ≡ false → known nodes p.x p.y p.layer ≡ false
-  unfolding known_at known
-  unknown e = any_none (length nodes) _ (λ j l. and_no_right (eqb (node_at nodes j).layer p.layer) (any-no (length nodes) j _ e l))
+-- a path's first point is known, or unknown on every layer, by the lowest number
+module _ (found : List Node) (x y : ℕ) {i : ℕ} (v : i ≡ lowest_at found x y) where
+  pub known-at : i < length found → known_at found x y ≡ true
+  known-at l = sym (lowest_at_below found x y) ∙ rw (← v) (lt-ltb i (length found) l)
 
+  pub unknown-at : i ≡ length found → known_at found x y ≡ false
+  unknown-at e = sym (lowest_at_below found x y) ∙ rw (← v) (le-ltb i (length found) (omega arith))
+
+  pub unknown : i ≡ length found → (layer : ℕ) → known found x y layer ≡ false
+  unfolding known_at known
+  unknown e layer =
+      any_none (length found) _ (λ j l. and_no_right (eqb (node_at found j).layer layer) (any-no (length found) j _ (unknown-at e) l))
+
+-- where there is no node, none is on a higher layer
+pub higher-alone : (found : List Node) (layer : ℕ) → higher layer (node_at found (length found)).layer ≡ layer
+higher-alone found layer = rw (get_or-eq_default found no_node {n = length found} (omega arith), le-ltb layer 0 (omega arith))
+
+module _ (nodes : List Node) (last : ℕ) (p : Point) where
   -- a later point of a path
   module _ (f : p.first ≡ false) where
     pub placed_again : known nodes p.x p.y p.layer ≡ true → Refused ≡ placed nodes last p

@@ -60,7 +60,7 @@ module _ (text : List ℕ) (place : ℕ) where
 
   module _ {points : ℕ} {found : Option Found} {table : List Node} {read : Result Read Wrong} (r : Reading text place read points found table) where
     -- the text leaves the form
-    route_wrong : {w : Wrong} → read ≡ Err w → RouteRead text place (Err (RouteForm w.0))
+    pub route_wrong : {w : Wrong} → read ≡ Err w → RouteRead text place (Err (RouteForm w.0))
     unfolding route_refusal points_refusal form_refusal
     route_wrong {w} q =
         let e = rw (q, points_wrong text (suc (length text)) w) at r.state.refused in
@@ -101,7 +101,7 @@ module _ (text : List ℕ) (place : ℕ) where
 
     -- a whole point
     module _ {p : Point} {next : ℕ} (q : read ≡ Ok (Whole p next)) where
-      whole-sound : Sound text 0 (Ok (Whole p next))
+      pub whole-sound : Sound text 0 (Ok (Whole p next))
       whole-sound = rw q at r.sound
 
       pub reached_whole : Reached (points_of text place) (p ∷ read_points (suc (length text)) text (behind text next p)) points found table
@@ -112,15 +112,15 @@ module _ (text : List ℕ) (place : ℕ) where
       whole_room = let h = rw q at r.room in omega arith
 
       module _ {read' : Result Read Wrong} (e : read' ≡ behind text next p) where
-        left_less : left text read' < left text (Ok (Whole p next))
-        left_less = rw e (behind-left text p next whole-sound)
+        pub left_less : left text read' < left text read
+        left_less = rw (e, q) (behind-left text p next whole-sound)
 
         pub left_formed : {s : Read} → formed read' ≡ Ok s → left text (Ok s) < left text (Ok (Whole p next))
         left_formed {s} = held read' refl
           where
             held : (u : Result Read Wrong) → read' ≡ u → formed u ≡ Ok s → left text (Ok s) < left text (Ok (Whole p next))
             held (Err w) k h = cc
-            held (Ok v) k h = let z : read' ≡ Ok s = cc in rw z at left_less
+            held (Ok v) k h = let z : read' ≡ Ok s = cc in rw z at (rw q at left_less)
 
         pub reading_on : {found' : Option Found} {table' : List Node}
             → Reached (points_of text place) (read_points (suc (length text)) text (behind text next p)) (points + 1) found' table'

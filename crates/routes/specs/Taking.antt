@@ -80,7 +80,7 @@ module _ {all rest : List Point} {p : Point} {points : ℕ} {found : Option Foun
 
   -- in it, as `placed` says
   module _ {f : Found} (e : found ≡ Some f) where
-    near : (f.count ≡ length r.nodes) × (f.last ≡ number_on r.nodes r.before.x r.before.y r.before.layer) × (length r.nodes ≤ most_nodes)
+    pub near : (f.count ≡ length r.nodes) × (f.last ≡ number_on r.nodes r.before.x r.before.y r.before.layer) × (length r.nodes ≤ most_nodes)
     near = found-few r.nodes r.before (sym e ∙ r.follows)
 
     pub count_most : f.count ≤ most_nodes
@@ -114,6 +114,10 @@ module _ {all rest : List Point} {p : Point} {points : ℕ} {found : Option Foun
             parent-within =
                 rw (new.2, near.1, near.0)
                 (cond_most p.first (lowest_at_most r.nodes p.x p.y) (number-most r.nodes r.before.x r.before.y r.before.layer))
+
+            -- its parent fits the table
+            pub parent-fits : f.count < most_nodes → parent < most_nodes
+            parent-fits c = omega (arith, parent-within)
 
             pub took_past : f.count ≡ most_nodes → Took all rest points p (Ok None) table
             took_past c =
@@ -151,3 +155,13 @@ again text place {rest} {p} r e =
       ← r.on p.x p.y p.layer,
       ne_eqb (length r.nodes) 0 (λ z. omega arith),
     )
+
+pub took_again : (text : List ℕ) (place : ℕ) {rest : List Point} {p : Point} {points : ℕ} {found : Option Found} {table : List Node}
+    → Reached (points_of text place) (p ∷ rest) points found table → p.layer < 256 → found ≡ None → {t : Bool}
+    → t ≡ cond p.first (is_none (first_read text place points p.x p.y 0 255)) (is_some (first_read text place points p.x p.y p.layer p.layer))
+    → Took (points_of text place) rest points p (cond t (Err (RoutePoint p.at)) (Ok None)) table
+took_again text place {rest} {p} {points} {table} r b e {t} h =
+    let j : t ≡ point_refused r.nodes p = h ∙ again text place r e in
+    by t
+    (λ y. rw y (took_far_refused r e j y))
+    (λ z. rw z (took_far r e j z b))

@@ -1,23 +1,24 @@
 -- What each test of the code shows of a word.
 -- Assumes nothing.
-use Prim.Native.Nat.{ℕ, ◌+◌, ◌-◌, ◌*◌, ◌^◌, ◌<◌, ◌≤◌, min}
-use Rattle.std.specs.Prelude.{◌≡◌, refl, true, false, not, ◌&&◌, List, [], ◌∷◌, Some, None, Result, Ok, Err, eqb, ltb, take, drop, get_or}
+use Prim.Native.Nat.{ℕ, suc, ◌+◌, ◌-◌, ◌*◌, ◌^◌, ◌<◌, ◌≤◌, min}
+use Rattle.std.specs.Prelude.{◌≡◌, refl, Bool, cond, true, false, not, ◌&&◌, List, [], ◌∷◌, Some, None, Result, Ok, Err, eqb, ltb, take, drop, get_or}
 use Rattle.std.specs.List.{prefix_len}
 use Rattle.std.specs.Result.{OkIff, result_ok}
 use Rattle.std.specs.Char.{is_ascii_digit}
 use Rattle.std.proofs.Math.Bool.{and-false}
-use Rattle.std.proofs.Common.{◌∙◌, add-one, lit<, drop-cons, drop_of_length-le}
+use Rattle.std.proofs.Common.{◌∙◌, sym, add-one, lit<, drop-cons, drop_of_length-le}
 use native.Mathlib.Omega.{arith}
-use Rattle.std.proofs.Math.Nat.{pow-succ'}
-use Rattle.std.proofs.Math.ListN.{length}
+use Rattle.std.proofs.Math.Nat.{pow-succ', pow-le-pow_right}
+use Rattle.std.proofs.Math.ListN.{length, length-drop}
 use borrow.Author.Tests.{lt-ltb, le-ltb, eq-eqb}
 use Rattle.std.proofs.lemmas.Bool.Decides.{nat_tests}
 use Rattle.std.proofs.lemmas.Bool.{ltb-true, ltb-false, not-true, eqb-true}
 use Rattle.std.proofs.lemmas.List.{drop_min}
-use Rattle.std.proofs.Math.Seq.{drop-drop}
+use Rattle.std.proofs.Math.Seq.{length-take-le, take_at, drop_at, take-add, drop-drop}
 use Rattle.laws.specs.Place.{part-all}
-use Rattle.laws.specs.Sums.{and_left, and_right, not_true_false}
-use Rattle.words.specs.Words.{blank, word_start, word_end, word_from, spelling, digit, digits, value_from, is_number, spelled_number, layer_digits}
+use Rattle.laws.specs.Sums.{by, and_left, and_right, not_true_false}
+use Rattle.words.specs.WordsLaws.{spelling-length}
+use Rattle.words.specs.Words.{Span, same, metal_word, layer_of, blank, word_start, word_end, word_from, spelling, digit, digits, value_from, is_number, spelled_number, layer_digits}
 
 -- the first word from a place on: what is left of the text, and of the word
 abbrev pub part : List ℕ → ℕ → List ℕ
@@ -45,7 +46,30 @@ module _ (text : List ℕ) (place m blanks others : ℕ) (e : m ≡ min place (l
       let n : place + blanks + others - (place + blanks) ≡ others = omega arith in
       rw (← next-is, ← at-is, n, word-is)
 
+-- the bytes from one place to another: the first, and those behind it
+pub part_none : (text : List ℕ) (i e : ℕ) → e ≤ i → take (e - i) (drop i text) ≡ []
+part_none text i e h = let z : e - i ≡ 0 = omega arith in rw z
+
+pub part-cons : (text : List ℕ) (i e : ℕ) → i < e → e ≤ length text
+    → take (e - i) (drop i text) ≡ get_or text i 0 ∷ take (e - (i + 1)) (drop (i + 1) text)
+part-cons text i e h k =
+    let n : e - i ≡ suc (e - (i + 1)) = omega arith in
+    let l : i < length text = omega arith in
+    rw (n, drop-cons text i 0 l, add-one i)
+
 -- a digit
+pub digit-yes : (b : ℕ) → 48 ≤ b → b ≤ 57 → digit b ≡ true
+unfolding digit
+digit-yes b h k = rw (le-ltb b 48 h) (lt-ltb b 58 (omega arith))
+
+pub digit_low : (b : ℕ) → b < 48 → digit b ≡ false
+unfolding digit
+digit_low b h = rw (lt-ltb b 48 h)
+
+digit-high : (b : ℕ) → 57 < b → digit b ≡ false
+unfolding digit
+digit-high b h = rw (le-ltb b 48 (omega arith)) (le-ltb b 58 (omega arith))
+
 digit-ascii : (b : ℕ) → digit b ≡ is_ascii_digit b
 unfolding digit
 digit-ascii b = grind (arith, nat_tests)
@@ -71,9 +95,18 @@ module _ (w : List ℕ) where
   module _ (v i : ℕ) (r : ReadUpTo w v i) where
     -- the next byte
     module _ (l : i < length w) where
+      pub value-fits : length w ≤ 5 → v < 10000
+      value-fits n = omega (arith, r.below, pow-le-pow_right {n = 10} (lit< tt) {i = i} {j = 4} (omega arith))
+
       pub number_other : is_ascii_digit (get_or w i 0) ≡ false → None ≡ spelled_number w
       unfolding digits is_number
       number_other d = simp (← r.all, drop-cons w i 0 l, digit-ascii, d, and-false)
+
+      pub number-low : get_or w i 0 < 48 → None ≡ spelled_number w
+      number-low g = number_other (sym (digit-ascii (get_or w i 0)) ∙ digit_low (get_or w i 0) g)
+
+      pub number-high : 57 < get_or w i 0 → None ≡ spelled_number w
+      number-high g = number_other (sym (digit-ascii (get_or w i 0)) ∙ digit-high (get_or w i 0) g)
 
       pub read_more : is_ascii_digit (get_or w i 0) ≡ true → ReadUpTo w (10 * v + (get_or w i 0 - 48)) (i + 1)
       unfolding digits value_from
@@ -96,49 +129,56 @@ module _ (w : List ℕ) where
       unfolding digits
       digits_read = rw (← r.all, drop_of_length-le w l)
 
-      pub number-whole : {E : Type 0} (n : Result ℕ E) → OkIff n (v < 65536) v → (length w ≡ 0 → ⊥) → length w ≤ 5 → result_ok n ≡ spelled_number w
+      pub number_large : 65536 ≤ v → None ≡ spelled_number w
       unfolding is_number
-      number-whole (Ok x) h e n =
-          rw (h.1, lt-ltb 0 (length w) (omega (arith, e)), lt-ltb (length w) 6 (omega arith), digits_read, value_read, lt-ltb v 65536 h.0)
-      number-whole (Err x) h e n = simp (value_read, le-ltb v 65536 (omega (arith, h)), and-false)
+      number_large g = simp (value_read, le-ltb v 65536 g, and-false)
+
+      pub number-right : (length w ≡ 0 → ⊥) → length w ≤ 5 → v < 65536 → Some v ≡ spelled_number w
+      unfolding is_number
+      number-right e n g =
+          rw (lt-ltb 0 (length w) (omega (arith, e)), lt-ltb (length w) 6 (omega arith), digits_read, value_read, lt-ltb v 65536 g)
+
+      pub number-whole : {E : Type 0} (n : Result ℕ E) → OkIff n (v < 65536) v → (length w ≡ 0 → ⊥) → length w ≤ 5 → result_ok n ≡ spelled_number w
+      number-whole (Ok x) h e n = rw (h.1) (number-right e n h.0)
+      number-whole (Err x) h e n = number_large (omega (arith, h))
 
 -- one or two digits of a layer
-pub layer-none : (l : List ℕ) → (length l ≡ 1 → ⊥) → (length l ≡ 2 → ⊥) → None ≡ layer_digits l
+pub digits-none : (l : List ℕ) → (length l ≡ 1 → ⊥) → (length l ≡ 2 → ⊥) → None ≡ layer_digits l
 unfolding layer_digits
-layer-none [] n m = refl
-layer-none (a ∷ []) n m = absurd (n refl)
-layer-none (a ∷ b ∷ []) n m = absurd (m refl)
-layer-none (a ∷ b ∷ c ∷ l) n m = refl
+digits-none [] n m = refl
+digits-none (a ∷ []) n m = absurd (n refl)
+digits-none (a ∷ b ∷ []) n m = absurd (m refl)
+digits-none (a ∷ b ∷ c ∷ l) n m = refl
 
-pub layer-one : (l : List ℕ) → length l ≡ 1 → 49 ≤ get_or l 0 0 → get_or l 0 0 ≤ 57 → Some (get_or l 0 0 - 48) ≡ layer_digits l
+pub digits-one : (l : List ℕ) → length l ≡ 1 → 49 ≤ get_or l 0 0 → get_or l 0 0 ≤ 57 → Some (get_or l 0 0 - 48) ≡ layer_digits l
 unfolding layer_digits
-layer-one [] e h k = absurd (omega arith)
-layer-one (a ∷ []) e h k = rw (lt-ltb 48 a (omega arith), lt-ltb a 58 (omega arith))
-layer-one (a ∷ b ∷ l) e h k = absurd (omega arith)
+digits-one [] e h k = absurd (omega arith)
+digits-one (a ∷ []) e h k = rw (lt-ltb 48 a (omega arith), lt-ltb a 58 (omega arith))
+digits-one (a ∷ b ∷ l) e h k = absurd (omega arith)
 
-pub layer-two : (l : List ℕ) → length l ≡ 2 → get_or l 0 0 ≡ 49 → 48 ≤ get_or l 1 0 → get_or l 1 0 ≤ 54 → Some (10 + (get_or l 1 0 - 48)) ≡ layer_digits l
+pub digits-two : (l : List ℕ) → length l ≡ 2 → get_or l 0 0 ≡ 49 → 48 ≤ get_or l 1 0 → get_or l 1 0 ≤ 54 → Some (10 + (get_or l 1 0 - 48)) ≡ layer_digits l
 unfolding layer_digits digit
-layer-two [] e h k m = absurd (omega arith)
-layer-two (a ∷ []) e h k m = absurd (omega arith)
-layer-two (a ∷ b ∷ []) e h k m =
+digits-two [] e h k m = absurd (omega arith)
+digits-two (a ∷ []) e h k m = absurd (omega arith)
+digits-two (a ∷ b ∷ []) e h k m =
     let n : b - 38 ≡ 10 + (b - 48) = omega arith in
     rw (eq-eqb a 49 h, le-ltb b 48 k, lt-ltb b 58 (omega arith), lt-ltb b 55 (omega arith), n)
-layer-two (a ∷ b ∷ c ∷ l) e h k m = absurd (omega arith)
+digits-two (a ∷ b ∷ c ∷ l) e h k m = absurd (omega arith)
 
 -- other bytes
-pub layer-one_other : (l : List ℕ) → length l ≡ 1 → (49 ≤ get_or l 0 0 → get_or l 0 0 ≤ 57 → ⊥) → None ≡ layer_digits l
+pub digits-one_other : (l : List ℕ) → length l ≡ 1 → (49 ≤ get_or l 0 0 → get_or l 0 0 ≤ 57 → ⊥) → None ≡ layer_digits l
 unfolding layer_digits
-layer-one_other [] e n = absurd (omega arith)
-layer-one_other (a ∷ []) e n =
+digits-one_other [] e n = absurd (omega arith)
+digits-one_other (a ∷ []) e n =
     let z : (ltb 48 a && ltb a 58) ≡ false = not_true_false _ (λ t. n (ltb-true 48 a (and_left (ltb 48 a) _ t)) (omega (arith, ltb-true a 58 (and_right (ltb 48 a) _ t)))) in
     rw z
-layer-one_other (a ∷ b ∷ l) e n = absurd (omega arith)
+digits-one_other (a ∷ b ∷ l) e n = absurd (omega arith)
 
-pub layer-two_other : (l : List ℕ) → length l ≡ 2 → (get_or l 0 0 ≡ 49 → 48 ≤ get_or l 1 0 → get_or l 1 0 ≤ 54 → ⊥) → None ≡ layer_digits l
+pub digits-two_other : (l : List ℕ) → length l ≡ 2 → (get_or l 0 0 ≡ 49 → 48 ≤ get_or l 1 0 → get_or l 1 0 ≤ 54 → ⊥) → None ≡ layer_digits l
 unfolding layer_digits digit
-layer-two_other [] e n = absurd (omega arith)
-layer-two_other (a ∷ []) e n = absurd (omega arith)
-layer-two_other (a ∷ b ∷ []) e n =
+digits-two_other [] e n = absurd (omega arith)
+digits-two_other (a ∷ []) e n = absurd (omega arith)
+digits-two_other (a ∷ b ∷ []) e n =
     let d = not (ltb b 48) && ltb b 58 in
     let z : (eqb a 49 && (d && ltb b 55)) ≡ false = not_true_false _
     (λ t.
@@ -147,4 +187,41 @@ layer-two_other (a ∷ b ∷ []) e n =
     (omega (arith, ltb-true b 55 (and_right d _ u))))
     in
     rw z
-layer-two_other (a ∷ b ∷ c ∷ l) e n = absurd (omega arith)
+digits-two_other (a ∷ b ∷ c ∷ l) e n = absurd (omega arith)
+
+-- a layer: one or two digits behind `metal`
+module _ (text : List ℕ) (w : Span) (h : w.at ≤ w.next) (k : w.next ≤ length text) where
+  pub layer-none : (w.next - w.at ≡ 6 → ⊥) → (w.next - w.at ≡ 7 → ⊥) → None ≡ layer_of (spelling text w)
+  unfolding layer_of
+  layer-none n m =
+      let e = length-drop 5 (spelling text w) in
+      let s = spelling-length text w h k in
+      rw (← digits-none (drop 5 (spelling text w)) (λ y. n (omega arith)) (λ z. m (omega arith)))
+      (by (same (take 5 (spelling text w)) metal_word) (λ y. rw y) (λ z. rw z))
+
+  module _ (l : 5 < w.next - w.at) (t : Bool) (e : t ≡ same (spelling text (record { at = w.at; next = w.at + 5 })) metal_word) where
+    layer-parts : layer_of (spelling text w) ≡ cond t (layer_digits (take (w.next - (w.at + 5)) (drop (w.at + 5) text))) None
+    unfolding layer_of spelling
+    layer-parts =
+        let n : w.next - w.at ≡ 5 + (w.next - (w.at + 5)) = omega arith in
+        let m : w.at + 5 - w.at ≡ 5 = omega arith in
+        let f = length-take-le 5 (drop w.at text) (omega (arith, length-drop w.at text)) in
+        rw (e, n, m, take-add 5 (w.next - (w.at + 5)) (drop w.at text), take_at _ _ 5 f, drop_at _ _ 5 f, drop-drop 5 w.at text)
+
+    pub layer_other : t ≡ false → None ≡ layer_of (spelling text w)
+    layer_other z = rw (layer-parts, z)
+
+    module _ (y : t ≡ true) where
+      pub layer-one : w.next - w.at ≡ 6 → layer_digits (get_or text (w.at + 5) 0 ∷ []) ≡ layer_of (spelling text w)
+      layer-one n =
+          rw (layer-parts, y, part-cons text (w.at + 5) w.next (omega arith) k, part_none text (w.at + 5 + 1) w.next (omega arith))
+
+      pub layer-two : w.next - w.at ≡ 7 → layer_digits (get_or text (w.at + 5) 0 ∷ get_or text (w.at + 5 + 1) 0 ∷ []) ≡ layer_of (spelling text w)
+      layer-two n =
+          rw (
+            layer-parts,
+            y,
+            part-cons text (w.at + 5) w.next (omega arith) k,
+            part-cons text (w.at + 5 + 1) w.next (omega arith) k,
+            part_none text (w.at + 5 + 1 + 1) w.next (omega arith),
+          )

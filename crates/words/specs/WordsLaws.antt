@@ -2,22 +2,31 @@
 -- Assumes nothing.
 use Rattle.std.specs.Prelude.{ℕ, ◌+◌, ◌-◌, ◌<◌, ◌≤◌, ◌≡◌, refl, Bool, true, false, cond, ◌&&◌, Some, None, eqb, ltb, length, take, drop, get_or}
 use Rattle.std.specs.List.{prefix_len}
-use Rattle.std.proofs.Common.{◌∙◌, sym, ap}
+use Rattle.std.proofs.Common.{◌∙◌, sym, ap, add-one, drop_of_length-le, ext_get_or}
 use Rattle.std.proofs.lemmas.Bool.{ltb-true, ltb-false, not-true}
 use Rattle.std.proofs.Math.Bool.{not}
 use mathlib.Core.List.{List, [], ◌∷◌}
 use native.Mathlib.Omega.{arith}
 use Rattle.std.proofs.Math.ListN.{length-drop}
-use Rattle.std.proofs.Math.Seq.{length-take-le, get_or-take, get_or-drop}
+use Rattle.std.proofs.Math.Seq.{length-take-le, drop-cons, get_or-take, get_or-drop}
 use Rattle.std.proofs.lemmas.List.Sums.{prefix_len-le-length}
 use Rattle.std.proofs.lemmas.Slice.Eq.{bytes_eq-Decides}
-use Rattle.laws.specs.Sums.{by, and_left, and_right}
+use Rattle.laws.specs.Sums.{by, and_left, and_right, not_true_false}
 use Rattle.words.specs.Words.{Span, blank, word_start, word_end, word_from, spelling, same, digit, metal_word, layer_digits, layer_of}
 
 -- how many bytes from a place on pass a test
 module _ (test : ℕ → Bool) (l : List ℕ) (i : ℕ) where
   prefix-fits : i ≤ length l → i + prefix_len test (drop i l) ≤ length l
   prefix-fits h = omega (arith, prefix_len-le-length test (drop i l), length-drop i l)
+
+  pub leading-more : i < length l → test (get_or l i 0) ≡ true → i + 1 + prefix_len test (drop (i + 1) l) ≡ i + prefix_len test (drop i l)
+  leading-more h e = rw (add-one i, drop-cons l i 0 h, e) (omega arith)
+
+  pub leading-stop : i < length l → test (get_or l i 0) ≡ false → i + prefix_len test (drop i l) ≡ i
+  leading-stop h e = rw (drop-cons l i 0 h, e) (omega arith)
+
+  pub leading_end : length l ≤ i → i + prefix_len test (drop i l) ≡ i
+  leading_end h = rw (drop_of_length-le l h) (omega arith)
 
 -- a word stands between its place and the text's length
 module _ (text : List ℕ) (place : ℕ) (h : place ≤ length text) where
@@ -54,13 +63,28 @@ module _ (text : List ℕ) (w : Span) (h : w.at ≤ w.next) (k : w.next ≤ leng
   unfolding spelling
   spelling-byte i l = get_or-take (w.next - w.at) (drop w.at text) i 0 l ∙ get_or-drop w.at text i 0
 
-  -- a word that is spelled so
-  module _ (m : List ℕ) (e : same (spelling text w) m ≡ true) where
-    pub spelled-next : w.next ≡ w.at + length m
-    spelled-next = omega (arith, spelling-length, ap length (same-eq (spelling text w) m e))
+  module _ (m : List ℕ) where
+    -- a word that is spelled so
+    module _ (e : same (spelling text w) m ≡ true) where
+      pub spelled-next : w.next ≡ w.at + length m
+      spelled-next = omega (arith, spelling-length, ap length (same-eq (spelling text w) m e))
 
-    pub spelled-byte : (i : ℕ) → i < length m → get_or text (w.at + i) 0 ≡ get_or m i 0
-    spelled-byte i l = sym (spelling-byte i (omega (arith, spelled-next))) ∙ ap (λ (s : List ℕ). get_or s i 0) (same-eq (spelling text w) m e)
+      pub spelled-byte : (i : ℕ) → i < length m → get_or text (w.at + i) 0 ≡ get_or m i 0
+      spelled-byte i l = sym (spelling-byte i (omega (arith, spelled-next))) ∙ ap (λ (s : List ℕ). get_or s i 0) (same-eq (spelling text w) m e)
+
+    pub spelled : w.next - w.at ≡ length m → ((i : ℕ) → i < length m → get_or text (w.at + i) 0 ≡ get_or m i 0)
+        → same (spelling text w) m ≡ true
+    spelled n f =
+        rw (ext_get_or 0 (spelling text w) m (spelling-length ∙ n)
+        (λ i l. let b : i < length m = omega (arith, spelling-length) in spelling-byte i (omega arith) ∙ f i b))
+        (same_self m)
+
+    -- a word of another length, or with another byte
+    pub other_length : (w.next - w.at ≡ length m → ⊥) → same (spelling text w) m ≡ false
+    other_length n = not_true_false (same (spelling text w) m) (λ e. n (omega (arith, spelled-next e)))
+
+    pub other_byte : (i : ℕ) → i < length m → (get_or text (w.at + i) 0 ≡ get_or m i 0 → ⊥) → same (spelling text w) m ≡ false
+    other_byte i l n = not_true_false (same (spelling text w) m) (λ e. n (spelled-byte e i l))
 
 -- the same of the first word from a place on
 module _ (text : List ℕ) (place : ℕ) (h : place ≤ length text) (m : List ℕ) (e : same (spelling text (word_from text place)) m ≡ true) where
