@@ -7,7 +7,8 @@ use clusters::work::Jumper;
 pub struct Counts<const N: usize> {
     // branches that the any-option of their host cuts
     pub cut_any: [bool; N],
-    // for each cluster, whether the any-option reaches the fewest points, and the weight that they leave
+    // for each cluster, whether the any-option reaches the fewest points, and the weight that it leaves, or the other one where that alone does:
+    // an entry of Options takes 24 bytes, and the call would then need more stack than include/antenna.h states
     pub any_ok: [bool; N],
     pub any_weight: [u64; N],
     // the least weight that a branch adds to its host without a gate, if that can be had
