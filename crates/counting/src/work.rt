@@ -1,5 +1,7 @@
 // The work arrays of the pass down, with an entry for each of at most N nodes.
 
+ghost use Rattle.std.specs.Prelude.{◌≡◌, false, replicate};
+
 use clusters::work::Jumper;
 
 // What the pass down finds.
@@ -20,7 +22,10 @@ pub struct Counts<const N: usize> {
 }
 
 impl<const N: usize> Counts<N> {
-    pub fn new() -> Self {
+    // Arrays before the pass down: no branch is marked.
+    pub fn new() -> Self
+        ensures { result.cut_any ≡ replicate N false }
+    {
         Counts {
             cut_any: [false; N],
             any_ok: [false; N],
