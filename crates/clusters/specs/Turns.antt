@@ -7,7 +7,7 @@ use Rattle.laws.specs.Sum.{χ, sum}
 use Rattle.laws.specs.Lists.{set-add}
 use Rattle.laws.specs.Sums.{by, and_left, χ-≤, sum-zero, sum_bound, any_next, any_none, up}
 use Rattle.net.specs.Net.{node_count, node_flags, is_gate, wire_parent, wire_layer}
-use Rattle.clusters.specs.FirstPasses.{Wired, is_present, cuttable, whole, Leads, Falling, marked, gathered, gate_of}
+use Rattle.clusters.specs.FirstPasses.{Wired, is_present, cuttable, whole, leader, Leads, Falling, marked, gathered, gate_of}
 
 -- ---- a wire that is present
 pub is_present-positive : (ws : List ℕ) (k i : ℕ) → is_present ws k i ≡ true → 0 < i
@@ -45,7 +45,7 @@ module _ (parent : ℕ → ℕ) (Joined : ℕ → Bool → Type 0) (i v : ℕ) (
       get_or-set_other l i (parent k) v 0 (λ e. native.Mathlib.Nat.lt_irrefl 0 (omega arith))
   leader-set false k p lower = refl
 
-  pub leads_more :
+  pub leads_next :
       (b : Bool) →
       i < length l →
       Joined i b →
@@ -53,7 +53,7 @@ module _ (parent : ℕ → ℕ) (Joined : ℕ → Bool → Type 0) (i v : ℕ) (
       ((k : ℕ) → k ≤ i → Joined k true → parent k < k) →
       ((k : ℕ) → k < i → (x : Bool) × Joined k x × (get_or l k 0 ≡ cond x (get_or l (parent k) 0) k)) →
       (k : ℕ) → k < i + 1 → (x : Bool) × Joined k x × (get_or (set l i v) k 0 ≡ cond x (get_or (set l i v) (parent k) 0) k)
-  leads_more b p here e lower h k q =
+  leads_next b p here e lower h k q =
       by (eqb k i)
       (λ y.
       let s = eqb-true k i y in
@@ -64,6 +64,18 @@ module _ (parent : ℕ → ℕ) (Joined : ℕ → Bool → Type 0) (i v : ℕ) (
       (m.0, m.1, get_or-set_other l i k v 0 d ∙ (m.2 ∙ sym (leader-set m.0 k (omega arith) (λ t. lower k (omega arith) (rw t at m.1))))))
 
 module _ (joined : ℕ → Bool) (parent : ℕ → ℕ) where
+  -- the same where the test is a function
+  pub leads_more :
+      (i : ℕ) (l : List ℕ) →
+      i < length l →
+      ((j : ℕ) → j ≤ i → joined j ≡ true → parent j < j) →
+      Leads i joined parent l →
+      Leads (i + 1) joined parent (set l i (leader joined parent l i))
+  leads_more i l p lower h k q =
+      let m =
+      leads_next parent (λ j b. b ≡ joined j) i (leader joined parent l i) l (joined i) p refl refl (λ j r t. lower j r (sym t)) (λ j r. (joined j, refl, h j r)) k q in
+      rw m.1 at m.2
+
   pub leads_falling : (n : ℕ) (l : List ℕ) → ((j : ℕ) → j < n → joined j ≡ true → parent j < j) → Leads n joined parent l → Falling n l
   leads_falling n l lower h =
       up n

@@ -1,5 +1,5 @@
 // The work arrays that the first passes of repair fill.
-ghost use Rattle.std.specs.Prelude.{◌≡◌, ◌<◌, ◌≤◌};
+ghost use Rattle.std.specs.Prelude.{◌≡◌, ◌<◌, ◌≤◌, None, replicate};
 
 // The lowest and the highest position of a wire that may be cut.
 #[derive(Clone, Copy)]
@@ -38,9 +38,10 @@ pub struct Clusters<const N: usize> {
 }
 
 impl<const N: usize> Clusters<N> {
-    // Before the first pass.
+    // Arrays for a net, before the first passes: of no node, and with no wire that may be cut.
     pub fn new() -> Self
-        ensures { result.n ≡ 0 }
+        ensures n { result.n ≡ 0 }
+        ensures cuttable { result.cuttable ≡ replicate N None }
     {
         Clusters {
             n: 0,

@@ -8,7 +8,7 @@ use Rattle.std.proofs.Math.ListN.{get_or}
 use borrow.Author.Tests.{ltb-true, ltb-false, eqb-true, eqb-false}
 use Rattle.laws.specs.Sum.{χ}
 use Rattle.laws.specs.Sums.{by, no_both, and_left, and_right, χ-yes, χ-no, χ-≤, sum-zero, sum_bound, sum-next, sum_next-≤}
-use Rattle.counting.specs.Close.{hung, HungAbove, branch_sum, flagged_count, flagged_sum, clear_count, heavier_than, Heaviest, HeaviestBranch}
+use Rattle.counting.specs.Close.{hung, HungAbove, branch_sum, flagged_count, flagged_sum, clear_count, heavier_than, Heaviest}
 
 -- ---- a test and two of its parts
 pub χ-both : {h p : Bool} (x : ℕ) → h ≡ true → p ≡ true → χ (h && p) x ≡ x
@@ -127,13 +127,6 @@ at_of (Some at) = at
 abbrev pub weight_at : List ℕ → Option ℕ → ℕ
 weight_at lightest None = 0
 weight_at lightest (Some at) = get_or lightest at 0
-
-pub heaviest_branch :
-    (n : ℕ) (lo host lightest : List ℕ) (cut_any : List Bool) (r : ℕ) (o : Option ℕ) →
-    Heaviest n lo host lightest cut_any r (at_of o) (weight_at lightest o) →
-    HeaviestBranch n lo host lightest cut_any r o
-heaviest_branch n lo host lightest cut_any r None h = h
-heaviest_branch n lo host lightest cut_any r (Some at) h = h
 
 module _ (lo host lightest : List ℕ) (cut_any : List Bool) (r : ℕ) where
   pub heaviest_none : (at : ℕ) → HungAbove lo host r → Heaviest (r + 1) lo host lightest cut_any r at 0

@@ -15,8 +15,8 @@ weights xs = map (λ (o : Option ℕ). unwrap_or o 0) xs
 pub flag_at : (xs : List (Option ℕ)) (j : ℕ) (d : Option ℕ) → j < length xs → get_or (flags xs) j false ≡ is_some (get_or xs j d)
 flag_at xs j d p = get_or-map is_some xs j d false p
 
-pub weight_at : (xs : List (Option ℕ)) (j : ℕ) (d : Option ℕ) → j < length xs → get_or (weights xs) j 0 ≡ unwrap_or (get_or xs j d) 0
-weight_at xs j d p = get_or-map (λ (o : Option ℕ). unwrap_or o 0) xs j d 0 p
+pub number_at : (xs : List (Option ℕ)) (j : ℕ) (d : Option ℕ) → j < length xs → get_or (weights xs) j 0 ≡ unwrap_or (get_or xs j d) 0
+number_at xs j d p = get_or-map (λ (o : Option ℕ). unwrap_or o 0) xs j d 0 p
 
 -- an entry written, seen through a function
 pub mapped_same : {A B : Type 0} (f : A → B) (l : List A) (i : ℕ) (v : A) (d : B) → i < length l → get_or (map f (set l i v)) i d ≡ f v

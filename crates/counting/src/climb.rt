@@ -2,7 +2,6 @@
 ghost use Rattle.std.specs.Prelude.{◌+◌, ◌<◌, ◌≤◌};
 ghost use Rattle.clusters.specs.Positions.{lo_of, hi_of};
 ghost use Rattle.clusters.specs.Stretch.{stretch_weight};
-ghost use Rattle.counting.specs.Close.{any_weight};
 ghost use Rattle.counting.specs.Climb.{Branch, LastWithin, Climbs, ClimbsAt, Closable};
 
 use crate::close::{Closing, Options};

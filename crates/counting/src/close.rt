@@ -1,10 +1,10 @@
 // Closing a cluster in the pass down: the fewest points below it, and the weight that they leave.
 // A cluster has two options. The any-option cuts the heaviest branches until the weight is within the limit; it is not there if the fixed weight alone is over the limit.
 // The ungated option cuts every branch that cannot come without a gate, and may then weigh anything; it is not there if the cluster has a gate.
-ghost use Rattle.std.specs.Prelude.{◌≡◌, ◌||◌, ◌+◌, ◌<◌, ◌≤◌, ◌^◌, get_or, ltb};
+ghost use Rattle.std.specs.Prelude.{◌≡◌, ◌+◌, ◌<◌, ◌≤◌, ◌^◌, get_or};
 ghost use Rattle.clusters.specs.Positions.{los};
 ghost use Rattle.counting.specs.Optional.{flags, weights};
-ghost use Rattle.counting.specs.Close.{hung, HungAbove, NoneCut, branch_sum, flagged_sum, clear_count, heavier_than, HeaviestBranch, Cutting, Room, cluster_at, any_ok, any_weight, only_any, only_ungated, Compared, Closes};
+ghost use Rattle.counting.specs.Close.{hung, HungAbove, NoneCut, branch_sum, flagged_sum, clear_count, heavier_than, HeaviestBranch, Cutting, Room, cluster_at, any_ok, any_weight, Compared, Closes};
 
 use crate::work::Branches;
 use clusters::work::Clusters;

@@ -1,5 +1,6 @@
 // The work arrays of the pass down, with an entry for each of at most N nodes.
-ghost use Rattle.std.specs.Prelude.{◌≡◌, false, ℕ, get_or};
+
+ghost use Rattle.std.specs.Prelude.{◌≡◌, false, replicate};
 
 use clusters::work::Jumper;
 
@@ -8,7 +9,8 @@ use clusters::work::Jumper;
 pub struct Counts<const N: usize> {
     // branches that the any-option of their host cuts
     pub cut_any: [bool; N],
-    // for each cluster, whether the any-option reaches the fewest points, and the weight that they leave
+    // for each cluster, whether the any-option reaches the fewest points, and the weight that it leaves, or the other one where that alone does:
+    // an entry of Options takes 24 bytes, and the call would then need more stack than include/antenna.h states
     pub any_ok: [bool; N],
     pub any_weight: [u64; N],
     // the least weight that a branch adds to its host without a gate, if that can be had
@@ -20,9 +22,9 @@ pub struct Counts<const N: usize> {
 }
 
 impl<const N: usize> Counts<N> {
-    // Before the pass: no branch is marked.
+    // Arrays before the pass down: no branch is marked.
     pub fn new() -> Self
-        ensures { (j : ℕ) → get_or result.cut_any j false ≡ false }
+        ensures { result.cut_any ≡ replicate N false }
     {
         Counts {
             cut_any: [false; N],

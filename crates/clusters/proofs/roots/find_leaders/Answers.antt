@@ -1,7 +1,7 @@
 -- `clusters::roots::find_leaders` meets its contract: below i the array has what nodes lead to. Assumes nothing.
 use Rattle.std.proofs.Common.{◌≡◌, cond, get_or, ap, ◌∙◌, arith}
 use Rattle.net.specs.Net.{wire_parent}
-use Rattle.clusters.specs.Turns.{leads_more}
+use Rattle.clusters.specs.Turns.{leads_next}
 use Rattle.clusters.proofs.roots.find_leaders.Goals as goal
 use Rattle.clusters.proofs.roots.find_leaders.Goals.{then-joined, else-joined}
 
@@ -14,7 +14,7 @@ loop-i-preserved g c =
       | then-joined w ↦ rw w.if-joined.true (w.leader-is ∙ ap (λ p. get_or l.leader p 0) w.wire_at.ensures.parent)
       | else-joined w ↦ rw w.if-joined.false w.leader-is
     ] in
-    leads_more (wire_parent a.wires.now) (goal.F-post g a.joined) l.i c.if-joined.leader l.leader c.joined.result (omega arith) c.joined.ensures leads
+    leads_next (wire_parent a.wires.now) (goal.F-post g a.joined) l.i c.if-joined.leader l.leader c.joined.result (omega arith) c.joined.ensures leads
     (λ k p t. c.requires.wired.below k (c.requires.wires_only k (omega arith) t) (omega arith))
     l.invariant
 

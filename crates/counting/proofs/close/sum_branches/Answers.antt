@@ -2,7 +2,7 @@
 -- Assumes nothing.
 use Rattle.std.proofs.Common.{ℕ, ◌<◌, Option, length, is_some, unwrap_or, sym, ◌∙◌, ap, arith}
 use Rattle.clusters.specs.Positions.{los}
-use Rattle.counting.specs.Optional.{flags, weights, flag_at, weight_at}
+use Rattle.counting.specs.Optional.{flags, weights, flag_at, number_at}
 use Rattle.counting.specs.CloseSums.{branch-none, branch_yes, branch_no, branch-room, option_none, option_clear, option_flagged, option_no, option_room}
 use Rattle.counting.proofs.close.sum_branches.Goals as goal
 use Rattle.counting.proofs.close.sum_branches.Goals.{then-hangs+in-Some, then-hangs+in-None, else-hangs}
@@ -43,7 +43,7 @@ overflow_add-free g c =
     let i = l.invariant.free_is in
     let stored : l.j < length a.ungated.now = omega arith in
     let room = option_room (los a.c.now.cuttable) a.c.now.host (weights a.ungated.now) (flags a.ungated.now) a.r l.j a.c.now.n (omega arith) (sym c.hangs.ensures ∙ c.if-hangs.true) (flag_at a.ungated.now l.j _ stored ∙ ap is_some c.in-Some.is) in
-    let weight = weight_at a.ungated.now l.j _ stored ∙ ap (λ (o : Option ℕ). unwrap_or o 0) c.in-Some.is in
+    let weight = number_at a.ungated.now l.j _ stored ∙ ap (λ (o : Option ℕ). unwrap_or o 0) c.in-Some.is in
     record { fits = omega arith }
 
 pub loop-j-preserved : goal.loop-j-preserved
@@ -56,7 +56,7 @@ loop-j-preserved g c =
       | then-hangs+in-Some w ↦
           let h = sym c.hangs.ensures ∙ w.if-hangs.true in
           let z = option_flagged (los a.c.now.cuttable) a.c.now.host (weights a.ungated.now) (flags a.ungated.now) a.r l.j h (flag_at a.ungated.now l.j _ stored ∙ ap is_some w.in-Some.is) in
-          let weight = weight_at a.ungated.now l.j _ stored ∙ ap (λ (o : Option ℕ). unwrap_or o 0) w.in-Some.is in
+          let weight = number_at a.ungated.now l.j _ stored ∙ ap (λ (o : Option ℕ). unwrap_or o 0) w.in-Some.is in
           record {
             count_is = omega (arith, w.count-is, branch_yes (los a.c.now.cuttable) a.c.now.host a.b.now.count a.r l.j h);
             lightest_is = omega (arith, w.lightest-is, branch_yes (los a.c.now.cuttable) a.c.now.host a.b.now.lightest a.r l.j h);
