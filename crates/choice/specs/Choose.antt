@@ -4,7 +4,7 @@ use Rattle.std.specs.Prelude.{ℕ, ◌+◌, ◌*◌, ◌≤◌, ◌<◌, ◌≡�
 use Rattle.net.specs.Layout.{wire_bytes}
 use Rattle.net.specs.Limits.{length_bound, weight_bound}
 use Rattle.clusters.specs.declared.work.Clusters.{Clusters}
-use Rattle.clusters.specs.Positions.{los, his}
+use Rattle.clusters.specs.Positions.{los, his, positions}
 use Rattle.clusters.specs.FirstPasses.{cuttable}
 use Rattle.clusters.specs.Stretch.{stretch_weight}
 use Rattle.counting.specs.declared.work.Counts.{Counts}
@@ -28,7 +28,7 @@ fits_whole ws c k limit r =
 abbrev pub any_here : List ℕ → {N : ℕ} → Clusters N → Counts N → ℕ → List Bool → Bool → ℕ → Bool
 any_here ws c k limit any_mode here r =
     cond (cuttable (los c.cuttable) r)
-    (ltb 0 (get_or k.near r 0) || ((host_mode c any_mode r || here) && fits_whole ws c k limit r))
+    (ltb 0 (get_or (positions k.near) r 0) || ((host_mode c any_mode r || here) && fits_whole ws c k limit r))
     (get_or k.any_ok r false)
 
 -- what the arrays of the pass up hold for cluster r

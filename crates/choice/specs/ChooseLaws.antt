@@ -9,7 +9,7 @@ use Rattle.net.specs.Net.{wire_factor}
 use Rattle.cuts.specs.Passes.{Chosen}
 use Rattle.clusters.specs.Arrays.{clusters_of, down_of, up_of}
 use Rattle.clusters.specs.declared.work.Clusters.{Clusters}
-use Rattle.clusters.specs.Positions.{los, his}
+use Rattle.clusters.specs.Positions.{los, his, positions}
 use Rattle.clusters.specs.FirstPasses.{cuttable}
 use Rattle.counting.specs.declared.work.Counts.{Counts}
 use Rattle.counting.specs.Optional.{flags}
@@ -55,7 +55,7 @@ module _ (ws : List ℕ) {N : ℕ} (c : Clusters N) (k : Counts N) (limit : ℕ)
   pub any_here-branch :
       (any_mode : List Bool) (here any fits : Bool) (r : ℕ) →
       0 < get_or (los c.cuttable) r 0 →
-      any ≡ (ltb 0 (get_or k.near r 0) || ((host_mode c any_mode r || here) && fits)) →
+      any ≡ (ltb 0 (get_or (positions k.near) r 0) || ((host_mode c any_mode r || here) && fits)) →
       fits ≡ fits_whole ws c k limit r →
       any ≡ any_here ws c k limit any_mode here r
   any_here-branch any_mode here any fits r l e f = e ∙ rw (lt-ltb 0 (get_or (los c.cuttable) r 0) l, f)

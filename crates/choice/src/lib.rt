@@ -1,9 +1,10 @@
 // The pass up: the option that each cluster takes, and the branches cut at their highest cuttable point.
 #![tactic(auto)]
 
-ghost use Rattle.std.specs.Prelude.{◌≡◌, Bool, false, not, ◌&&◌, ◌||◌, cond, List, ℕ, ◌+◌, ◌*◌, ◌<◌, ◌≤◌, length, get_or, leb};
+ghost use Rattle.std.specs.Prelude.{◌≡◌, Bool, false, not, ◌&&◌, ◌||◌, cond, List, ℕ, ◌+◌, ◌*◌, ◌<◌, ◌≤◌, length, get_or, leb, ltb};
 ghost use Rattle.net.specs.Layout.{wire_bytes};
 ghost use Rattle.net.specs.Limits.{length_bound, weight_bound};
+ghost use Rattle.clusters.specs.Positions.{positions};
 ghost use Rattle.clusters.specs.Stretch.{stretch_weight};
 ghost use Rattle.counting.specs.Optional.{flags};
 ghost use Rattle.choice.specs.Choose.{Chooses, Choosable};
@@ -40,6 +41,14 @@ fn fits_whole<const N: usize>(
     k.any_ok[r] && k.any_weight[r] + stretch_weight(wires, r, lo, hi) <= limit
 }
 
+// Branch r has a jumper of its own.
+fn stops<const N: usize>(k: &Counts<N>, r: usize) -> bool
+    requires { r < N }
+    ensures { result ≡ ltb 0 (get_or (positions k.now.near) r 0) }
+{
+    k.near[r].is_some()
+}
+
 // A branch's cluster takes the any-option: the branch has a jumper of its own; or its host takes it, or the branch is cut, and all of its wire fits.
 fn takes_any(stops: bool, host_any: bool, here: bool, fits: bool) -> bool
     ensures { result ≡ (stops || ((host_any || here) && fits)) }
@@ -66,7 +75,7 @@ pub fn choose<const N: usize>(
             let here = is_cut_high(k, r, host_any);
             let fits = fits_whole(wires, r, ends, k, limit);
             cut_high[r] = here;
-            any_mode[r] = takes_any(0 < k.near[r], host_any, here, fits);
+            any_mode[r] = takes_any(stops(k, r), host_any, here, fits);
         } else {
             cut_high[r] = false;
             any_mode[r] = k.any_ok[r];

@@ -1,9 +1,10 @@
--- The positions in the work arrays as numbers: 0 where a wire cannot be cut.
+-- The positions in the work arrays as numbers: 0 where a wire cannot be cut, and where it has no jumper of its own.
 -- Assumes nothing.
 use Rattle.std.specs.Prelude.{ℕ, ◌<◌, ◌≡◌, ◌≢◌, true, false, Option, None, Some, is_some, List, length, get_or, map}
 use Rattle.std.proofs.Common.{refl, sym, ◌∙◌, arith}
 use Rattle.std.proofs.lemmas.List.{get_or-map}
 use Rattle.clusters.specs.declared.work.Cuttable.{Cuttable}
+use Rattle.clusters.specs.declared.work.Jumper.{Jumper}
 
 abbrev pub lo_of : Option Cuttable → ℕ
 lo_of None = 0
@@ -19,12 +20,22 @@ los cuttable = map lo_of cuttable
 abbrev pub his : List (Option Cuttable) → List ℕ
 his cuttable = map hi_of cuttable
 
+abbrev pub position_of : Option Jumper → ℕ
+position_of None = 0
+position_of (Some j) = j.position
+
+abbrev pub positions : List (Option Jumper) → List ℕ
+positions jumpers = map position_of jumpers
+
 -- an entry and its number
 pub lo_at : (cuttable : List (Option Cuttable)) (i : ℕ) (d : Option Cuttable) → i < length cuttable → get_or (los cuttable) i 0 ≡ lo_of (get_or cuttable i d)
 lo_at cuttable i d p = get_or-map lo_of cuttable i d 0 p
 
 pub hi_at : (cuttable : List (Option Cuttable)) (i : ℕ) (d : Option Cuttable) → i < length cuttable → get_or (his cuttable) i 0 ≡ hi_of (get_or cuttable i d)
 hi_at cuttable i d p = get_or-map hi_of cuttable i d 0 p
+
+pub position_at : (jumpers : List (Option Jumper)) (i : ℕ) (d : Option Jumper) → i < length jumpers → get_or (positions jumpers) i 0 ≡ position_of (get_or jumpers i d)
+position_at jumpers i d p = get_or-map position_of jumpers i d 0 p
 
 -- where there is none the number is 0, and else above 0
 lo_none : (o : Option Cuttable) → is_some o ≡ false → lo_of o ≡ 0

@@ -9,6 +9,13 @@ pub struct Cuttable {
     ghost positive: { 0 < lo },
 }
 
+// A jumper of a wire, by its position.
+#[derive(Clone, Copy)]
+pub struct Jumper {
+    pub position: u32,
+    ghost positive: { 0 < position },
+}
+
 // What the first passes find of a net with at most N nodes.
 #[derive(Drop)]
 pub struct Clusters<const N: usize> {

@@ -5,6 +5,7 @@ use Rattle.net.specs.Layout.{newest, most_nodes}
 use Rattle.net.specs.Limits.{weight_bound}
 use Rattle.net.specs.Net.{wire_factor, wire_length, barred}
 use Rattle.points.specs.Cuttable.{Checked}
+use Rattle.clusters.specs.Positions.{position_of}
 use Rattle.clusters.specs.Stretch.{stretch_weight}
 use Rattle.cuts.specs.Cluster.{Clusters}
 use Rattle.cuts.specs.Passes.{Down, Climbed}
@@ -60,7 +61,7 @@ climbing_of x y =
       lightest = λ j. y.lightest;
       has_ungated = λ j. is_some y.ungated;
       ungated = λ j. unwrap_or y.ungated 0;
-      near = λ j. unwrap_or y.near 0;
+      near = λ j. position_of y.near;
     }
 
 -- the numbers of a closed cluster are small, and without the ungated option its weight is within the limit

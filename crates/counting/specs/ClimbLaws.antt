@@ -10,6 +10,7 @@ use Rattle.net.specs.Layout.{newest}
 use Rattle.net.specs.Net.{wire_factor, wire_length, barred}
 use Rattle.points.specs.Cuttable.{Highest}
 use Rattle.cuts.specs.Passes.{without-gate, within_limit, with-jumper}
+use Rattle.clusters.specs.declared.work.Jumper.{Jumper}
 use Rattle.clusters.specs.Stretch.{stretch_weight}
 use Rattle.counting.specs.declared.close.Closing.{Closing}
 use Rattle.counting.specs.declared.climb.Climbing.{Climbing}
@@ -116,10 +117,10 @@ module _ (ns ws os : List ℕ) (i lo hi limit : ℕ) (x : Closing) (y : Climbing
   climbs_within o h e = rw e (within_limit o h refl refl refl refl)
 
   pub climbs_jumper :
-      (near : ℕ) →
+      (near : Jumper) →
       ungated_ok x.options ≡ false →
       limit < any_weight x.options + stretch_weight ws i lo hi →
-      LastWithin ns ws os i lo hi (any_weight x.options) limit near →
-      y ≡ record { count = x.fewest + 1; lightest = stretch_weight ws i near hi; ungated = Some (stretch_weight ws i near hi); near = Some near } →
+      LastWithin ns ws os i lo hi (any_weight x.options) limit near.position →
+      y ≡ record { count = x.fewest + 1; lightest = stretch_weight ws i near.position hi; ungated = Some (stretch_weight ws i near.position hi); near = Some near } →
       Climbs ns ws os i lo hi limit x y
   climbs_jumper near o h l e = rw e (with-jumper o h refl l.is_open l.within l.highest refl refl refl)

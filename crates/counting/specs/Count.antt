@@ -10,7 +10,7 @@ use Rattle.cuts.specs.Cluster.{Clusters, Sound}
 use Rattle.cuts.specs.Passes.{Down, Counted}
 use Rattle.cuts.specs.Bounds.{all_weight}
 use Rattle.clusters.specs.declared.work.Clusters as work
-use Rattle.clusters.specs.Positions.{los, his}
+use Rattle.clusters.specs.Positions.{los, his, positions}
 use Rattle.clusters.specs.Arrays.{down_of}
 use Rattle.counting.specs.declared.work.Counts.{Counts}
 use Rattle.counting.specs.declared.work.Branches.{Branches}
@@ -51,7 +51,7 @@ Unmarked c cut_any r = (j : ℕ) → j < c.n → 0 < get_or (los c.cuttable) j 0
 -- what the arrays hold, with what closings find of the ungated option, which is in no array
 abbrev pub found : {N : ℕ} → Counts N → Branches N → (ℕ → Bool) → (ℕ → ℕ) → Down
 found k b ungated_ok ungated_weight =
-    down_of k.cut_any k.fewest k.any_ok k.any_weight ungated_ok ungated_weight b.count b.lightest (flags k.ungated) (weights k.ungated) k.near
+    down_of k.cut_any k.fewest k.any_ok k.any_weight ungated_ok ungated_weight b.count b.lightest (flags k.ungated) (weights k.ungated) (positions k.near)
 
 -- the clusters from r on are closed and climbed
 pub record CountedFrom (c : Clusters) (limit : ℕ) {N : ℕ} (k : Counts N) (b : Branches N) (r : ℕ) : Type 0 where

@@ -9,7 +9,7 @@ use borrow.Author.Tests.{eqb-true, eq-eqb, ne_eqb, ltb-true, ltb-false, lt-ltb}
 use Rattle.laws.specs.Sums.{and_left, and_right, not_true_false}
 use Rattle.cuts.specs.Passes.{Down}
 use Rattle.cuts.specs.Bounds.{sums_bounded}
-use Rattle.clusters.specs.Positions.{los, his}
+use Rattle.clusters.specs.Positions.{los, his, position_of}
 use Rattle.clusters.specs.Arrays.{down_of}
 use Rattle.counting.specs.declared.close.Closing.{Closing}
 use Rattle.counting.specs.declared.climb.Climbing.{Climbing}
@@ -117,7 +117,7 @@ module _ (ns ws os : List ℕ) {N : ℕ} (c : work.Clusters N) (ready : Ready ns
           any_ok = set k.any_ok r (any_ok x.options);
           any_weight = set k.any_weight r (any_weight x.options);
           ungated = set k.ungated r y.ungated;
-          near = set k.near r (unwrap_or y.near 0);
+          near = set k.near r y.near;
           fewest = set k.fewest r x.fewest;
         }
 
@@ -168,7 +168,7 @@ module _ (ns ws os : List ℕ) {N : ℕ} (c : work.Clusters N) (ready : Ready ns
           lightest = get_or-set_same b.lightest r y.lightest 0 entries.lightest;
           has_ungated = mapped_same is_some k.ungated r y.ungated false entries.ungated;
           ungated = mapped_same (λ (o : Option ℕ). unwrap_or o 0) k.ungated r y.ungated 0 entries.ungated;
-          near = get_or-set_same k.near r (unwrap_or y.near 0) 0 entries.near;
+          near = mapped_same position_of k.near r y.near 0 entries.near;
         }
 
     turn : Turn (work_clusters ns ws os c) limit old new r
@@ -187,13 +187,13 @@ module _ (ns ws os : List ℕ) {N : ℕ} (c : work.Clusters N) (ready : Ready ns
                 lightest = get_or-set_other b.lightest r j y.lightest 0 ne;
                 has_ungated = mapped_other is_some k.ungated r j y.ungated false ne;
                 ungated = mapped_other (λ (o : Option ℕ). unwrap_or o 0) k.ungated r j y.ungated 0 ne;
-                near = get_or-set_other k.near r j (unwrap_or y.near 0) 0 ne;
+                near = mapped_other position_of k.near r j y.near 0 ne;
               };
           closed = closed_same same_here limit closes.closed;
           climbed = λ l. climbed-same same-wire limit (climbs.climbed (ltb-true 0 (get_or (los c.cuttable) r 0) l));
           no_near = λ l.
-              get_or-set_same k.near r (unwrap_or y.near 0) 0 entries.near
-              ∙ ap (λ (o : Option ℕ). unwrap_or o 0) (climbs.none (let z = ltb-false 0 (get_or (los c.cuttable) r 0) l in omega arith));
+              mapped_same position_of k.near r y.near 0 entries.near
+              ∙ ap position_of (climbs.none (let z = ltb-false 0 (get_or (los c.cuttable) r 0) l in omega arith));
         }
 
     pub counted-turn : CountedFrom (work_clusters ns ws os c) limit counts_after branches_after r

@@ -7,17 +7,17 @@ ghost use Rattle.counting.specs.Climb.{Branch, LastWithin, Climbs, ClimbsAt, Clo
 
 use crate::close::{Closing, Options};
 use clusters::stretch::{stretch_weight, weight_of_step};
-use clusters::work::Cuttable;
+use clusters::work::{Cuttable, Jumper};
 use points::highest_cuttable;
 
 // What climbing a branch's wire finds: the fewest points below and on it; the least weight that it then adds to its host; the least without a gate, if that can be had;
-// the position of its own jumper, if it has one.
+// its own jumper, if it has one.
 #[derive(Clone, Copy)]
 pub struct Climbing {
     pub count: u64,
     pub lightest: u64,
     pub ungated: Option<u64>,
-    pub near: Option<u64>,
+    pub near: Option<Jumper>,
 }
 
 // The highest cuttable position of a branch's wire up to which its piece is within the limit.
@@ -29,14 +29,16 @@ fn last_within(
     ends: Cuttable,
     weight: u64,
     limit: u64,
-) -> u64
+) -> Jumper
     requires branch { Branch nodes.now wires.now obstacles.now i ends.lo ends.hi }
     requires weight_le_limit { (weight ≤ limit) × (limit < weight + stretch_weight wires.now i ends.lo ends.hi) }
-    ensures { LastWithin nodes.now wires.now obstacles.now i ends.lo ends.hi weight limit result }
+    ensures { LastWithin nodes.now wires.now obstacles.now i ends.lo ends.hi weight limit result.position }
 {
     let steps = (limit - weight) / weight_of_step(wires, i);
     let last = (u64::from(ends.lo) + steps) as u32;
-    u64::from(highest_cuttable(nodes, wires, obstacles, i, last).unwrap())
+    Jumper {
+        position: highest_cuttable(nodes, wires, obstacles, i, last).unwrap(),
+    }
 }
 
 // Climbs the wire of branch i, whose cluster is closed.
@@ -58,7 +60,7 @@ fn climb(
     match x.options {
         Options::Any(weight) if limit < weight + span => {
             let near = last_within(nodes, wires, obstacles, i, ends, weight, limit);
-            let rest = stretch_weight(wires, i, near, hi);
+            let rest = stretch_weight(wires, i, u64::from(near.position), hi);
             Climbing {
                 count: x.fewest + 1,
                 lightest: rest,

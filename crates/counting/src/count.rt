@@ -46,7 +46,7 @@ fn count_clusters<const N: usize>(
         b.count[r] = y.count;
         b.lightest[r] = y.lightest;
         k.ungated[r] = y.ungated;
-        k.near[r] = y.near.unwrap_or(0);
+        k.near[r] = y.near;
     }
 }
 

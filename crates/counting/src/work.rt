@@ -1,5 +1,7 @@
 // The work arrays of the pass down, with an entry for each of at most N nodes.
 
+use clusters::work::Jumper;
+
 // What the pass down finds.
 #[derive(Drop)]
 pub struct Counts<const N: usize> {
@@ -10,8 +12,8 @@ pub struct Counts<const N: usize> {
     pub any_weight: [u64; N],
     // the least weight that a branch adds to its host without a gate, if that can be had
     pub ungated: [Option<u64>; N],
-    // the position of a branch's own jumper, 0 for none
-    pub near: [u64; N],
+    // a branch's own jumper, if it has one
+    pub near: [Option<Jumper>; N],
     // for each cluster, the fewest points below it
     pub fewest: [u64; N],
 }
@@ -23,7 +25,7 @@ impl<const N: usize> Counts<N> {
             any_ok: [false; N],
             any_weight: [0; N],
             ungated: [None; N],
-            near: [0; N],
+            near: [None; N],
             fewest: [0; N],
         }
     }

@@ -5,10 +5,10 @@ ghost use Rattle.std.specs.Prelude.{◌≡◌, ◌*◌, ◌<◌, ◌≤◌, leng
 ghost use Rattle.laws.specs.Lists.{over};
 ghost use Rattle.net.specs.Layout.{entry_bytes};
 ghost use Rattle.net.specs.Limits.{length_bound};
-ghost use Rattle.clusters.specs.Positions.{his};
+ghost use Rattle.clusters.specs.Positions.{his, position_of, positions};
 ghost use Rattle.listing.specs.Listing.{entry, wire_entries, wire_count, list_of, count_of, Writable};
 
-use clusters::work::Cuttable;
+use clusters::work::{Cuttable, Jumper};
 use net::layout::ENTRY_BYTES;
 
 // An entry at the start of the buffer's remainder.
@@ -20,14 +20,20 @@ fn write_entry(wire: u8, position: u16, rest: &mut [u8])
     rest[1..ENTRY_BYTES].copy_from_slice(&position.to_le_bytes());
 }
 
-// Writes the entries of one wire, where near is 0 if it has no jumper there, at the start of the buffer's remainder, and answers how many.
-fn write_wire_entries(wire: u8, near: u64, hi: u32, cut_high: bool, rest: &mut [u8]) -> usize
-    requires { (near < length_bound) × (hi < length_bound) × (entry_bytes * wire_count near cut_high ≤ length rest.old) }
-    ensures { (result ≡ wire_count near cut_high) × (rest.new ≡ over (wire_entries wire near hi cut_high) rest.old) }
+// Writes the entries of one wire at the start of the buffer's remainder, and answers how many.
+fn write_wire_entries(
+    wire: u8,
+    near: Option<Jumper>,
+    hi: u32,
+    cut_high: bool,
+    rest: &mut [u8],
+) -> usize
+    requires { (position_of near < length_bound) × (hi < length_bound) × (entry_bytes * wire_count (position_of near) cut_high ≤ length rest.old) }
+    ensures { (result ≡ wire_count (position_of near) cut_high) × (rest.new ≡ over (wire_entries wire (position_of near) hi cut_high) rest.old) }
 {
     let mut written = 0;
-    if 0 < near {
-        write_entry(wire, near as u16, rest);
+    if let Some(jumper) = near {
+        write_entry(wire, jumper.position as u16, rest);
         written += 1;
     }
     if cut_high {
@@ -49,14 +55,14 @@ fn highest(cuttable: &[Option<Cuttable>], r: usize) -> u32
 pub fn write_list(
     n: usize,
     cuttable: &[Option<Cuttable>],
-    near: &[u64],
+    near: &[Option<Jumper>],
     cut_high: &[bool],
     out: &mut [u8],
 ) -> usize
-    requires writable { Writable n (his cuttable.now) near.now cut_high.now }
-    requires cut_high_in_bounds { entry_bytes * count_of n near.now cut_high.now ≤ length out.old }
-    ensures { (result ≡ count_of n near.now cut_high.now)
-        × (out.new ≡ over (list_of n (his cuttable.now) near.now cut_high.now) out.old) }
+    requires writable { Writable n (his cuttable.now) (positions near.now) cut_high.now }
+    requires cut_high_in_bounds { entry_bytes * count_of n (positions near.now) cut_high.now ≤ length out.old }
+    ensures { (result ≡ count_of n (positions near.now) cut_high.now)
+        × (out.new ≡ over (list_of n (his cuttable.now) (positions near.now) cut_high.now) out.old) }
 {
     let mut count = 0;
     for r in 0..n {

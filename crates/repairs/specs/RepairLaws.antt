@@ -32,7 +32,7 @@ use Rattle.cuts.specs.BridgeFits.{sound_of_fits}
 use Rattle.cuts.specs.BridgeRun.{hopeless-none}
 use Rattle.clusters.specs.Arrays.{clusters_of, down_of, up_of}
 use Rattle.clusters.specs.declared.work.Clusters.{Clusters}
-use Rattle.clusters.specs.Positions.{los, his}
+use Rattle.clusters.specs.Positions.{los, his, positions}
 use Rattle.clusters.specs.FirstPasses.{Clustered}
 use Rattle.clusters.specs.Hopeless.{any_hopeless}
 use Rattle.clusters.specs.HopelessLaws.{some-hopeless}
@@ -193,21 +193,21 @@ module _ (ns ws os : List ℕ) (k : ℕ) (right : NetRight newest ns ws os) {N :
                 chosen_of ws c d limit (stage_of newest ns ws os k) worked.counted.ungated_ok worked.counted.ungated_weight worked.branches any_mode cut_high r refl (chose r (omega (arith, first.n_is)));
           }
 
-      pub planned : Planned (stage_of newest ns ws os k) limit (his c.cuttable) d.near cut_high points
+      pub planned : Planned (stage_of newest ns ws os k) limit (his c.cuttable) (positions d.near) cut_high points
       unfolding clusters_of stage_of down_of total_fewest root_sum
       planned =
           let b = worked.branches in
           let up = worked.counted in
           record {
-            smallest = smallest_list (stage_of newest ns ws os k) (λ i. get_or c.root i 0) (λ i. get_or c.component i 0) limit (los c.cuttable) (his c.cuttable) c.host c.fixed c.gates d.cut_any d.fewest d.any_ok d.any_weight up.ungated_ok up.ungated_weight b.count b.lightest (flags d.ungated) (weights d.ungated) d.near any_mode cut_high is_formed first.fits run first.short;
-            listing = listable (stage_of newest ns ws os k) (λ i. get_or c.root i 0) (λ i. get_or c.component i 0) limit (los c.cuttable) (his c.cuttable) c.host c.fixed c.gates d.cut_any d.fewest d.any_ok d.any_weight up.ungated_ok up.ungated_weight b.count b.lightest (flags d.ungated) (weights d.ungated) d.near any_mode cut_high is_formed first.fits run first.short;
+            smallest = smallest_list (stage_of newest ns ws os k) (λ i. get_or c.root i 0) (λ i. get_or c.component i 0) limit (los c.cuttable) (his c.cuttable) c.host c.fixed c.gates d.cut_any d.fewest d.any_ok d.any_weight up.ungated_ok up.ungated_weight b.count b.lightest (flags d.ungated) (weights d.ungated) (positions d.near) any_mode cut_high is_formed first.fits run first.short;
+            listing = listable (stage_of newest ns ws os k) (λ i. get_or c.root i 0) (λ i. get_or c.component i 0) limit (los c.cuttable) (his c.cuttable) c.host c.fixed c.gates d.cut_any d.fewest d.any_ok d.any_weight up.ungated_ok up.ungated_weight b.count b.lightest (flags d.ungated) (weights d.ungated) (positions d.near) any_mode cut_high is_formed first.fits run first.short;
             points_is =
                 rw first.n_is at worked.points_is
-                ∙ sym (count_is_total (stage_of newest ns ws os k) (λ i. get_or c.root i 0) (λ i. get_or c.component i 0) limit (los c.cuttable) (his c.cuttable) c.host c.fixed c.gates d.cut_any d.fewest d.any_ok d.any_weight up.ungated_ok up.ungated_weight b.count b.lightest (flags d.ungated) (weights d.ungated) d.near any_mode cut_high is_formed first.fits run first.short);
+                ∙ sym (count_is_total (stage_of newest ns ws os k) (λ i. get_or c.root i 0) (λ i. get_or c.component i 0) limit (los c.cuttable) (his c.cuttable) c.host c.fixed c.gates d.cut_any d.fewest d.any_ok d.any_weight up.ungated_ok up.ungated_weight b.count b.lightest (flags d.ungated) (weights d.ungated) (positions d.near) any_mode cut_high is_formed first.fits run first.short);
           }
 
     -- before the pass up has run: it can choose, so as many points as were counted are the fewest
-    pub planned-some : (cut_high : List Bool) × Planned (stage_of newest ns ws os k) limit (his c.cuttable) d.near cut_high points
+    pub planned-some : (cut_high : List Bool) × Planned (stage_of newest ns ws os k) limit (his c.cuttable) (positions d.near) cut_high points
     planned-some =
         let o = options ws c d limit choosable_of.below c.n (omega arith) in
         (o.cut_high, planned o.any_mode o.cut_high o.chosen)
@@ -217,7 +217,7 @@ module _ (ns ws os : List ℕ) (k : ℕ) (right : NetRight newest ns ws os) {N :
     unfolding stage_of
     points-few =
         let q = planned-some in
-        omega (arith, q.1.points_is, count-few (node_count ns) d.near q.0)
+        omega (arith, q.1.points_is, count-few (node_count ns) (positions d.near) q.0)
 
 module _ {s : Stage} {limit : ℕ} {hi near : List ℕ} {cut_high : List Bool} {points : ℕ} {out : List ℕ} {r : Answer} (p : Planned s limit hi near cut_high points) where
   pub judged-short : length out < entry_bytes * points → r ≡ answer (refusal 16 (entry_bytes * points)) 0 → Judged s limit out out r

@@ -41,7 +41,7 @@ loop-r-preserved g c =
             long = length-set l.any_mode l.r _ ∙ l.invariant.long;
             chosen =
                 more _ _ (cut_here-branch ws first counts a.limit l.any_mode l.r _ branch w.is_cut_high-here.ensures)
-                (any_here-branch ws first counts a.limit l.any_mode _ _ _ l.r branch w.takes_any.ensures (rw (lo, hi) w.fits_whole-fits.ensures));
+                (any_here-branch ws first counts a.limit l.any_mode _ _ _ l.r branch (rw w.stops.ensures at w.takes_any.ensures) (rw (lo, hi) w.fits_whole-fits.ensures));
           })
       | in_default w ↦
           let lo = lo_at first.cuttable l.r _ stored ∙ ap lo_of w.in_default.is in

@@ -1,21 +1,22 @@
 -- `listing::write_list` meets its contract: below r every wire's entries are written, one behind the other.
 -- Assumes nothing.
-use Rattle.std.proofs.Common.{ℕ, ◌*◌, ◌+◌, ◌≤◌, ◌∙◌, List, false, length, get_or, refl, sym, ap, arith, rules}
+use Rattle.std.proofs.Common.{ℕ, ◌*◌, ◌+◌, ◌<◌, ◌≤◌, ◌∙◌, List, false, length, get_or, refl, sym, ap, arith, rules}
+use Rattle.std.proofs.lemmas.List.{length-map}
 use Rattle.laws.specs.Lists.{over, over_lent}
 use Rattle.laws.specs.Sum.{sum}
 use Rattle.laws.specs.Gather.{gather}
 use Rattle.net.specs.Layout.{entry_bytes}
-use Rattle.clusters.specs.Positions.{his}
+use Rattle.clusters.specs.Positions.{his, position_of, positions, position_at}
 use Rattle.listing.specs.Listing.{list_of, wire_count, wire_entries}
 use Rattle.listing.specs.ListingWriting.{length-list_of, list_of-next, count_of-next, room_at}
 use Rattle.listing.proofs.write_list.Goals as goal
 
 room : (c : goal.In-loop-r) →
-    entry_bytes * c.loop-r.count + entry_bytes * wire_count (get_or c.args.near.now c.loop-r.r 0) (get_or c.args.cut_high.now c.loop-r.r false) ≤ length c.loop-r.out
+    entry_bytes * c.loop-r.count + entry_bytes * wire_count (get_or (positions c.args.near.now) c.loop-r.r 0) (get_or c.args.cut_high.now c.loop-r.r false) ≤ length c.loop-r.out
 room c =
     let a = c.args in
     let l = c.loop-r in
-    room_at a.near.now a.cut_high.now a.n l.r l.count (length l.out) c.loop-r-test.true l.invariant.0 (omega (arith, l.auto.out))
+    room_at (positions a.near.now) a.cut_high.now a.n l.r l.count (length l.out) c.loop-r-test.true l.invariant.0 (omega (arith, l.auto.out))
 
 pub loop-r-init : goal.loop-r-init
 unfolding sum gather
@@ -35,17 +36,23 @@ write_wire_entries-count-requires c =
     let a = c.args in
     let l = c.loop-r in
     let q = c.requires.writable in
-    let m = room_at a.near.now a.cut_high.now a.n l.r l.count (length l.out) c.loop-r-test.true l.invariant.0 (omega (arith, l.auto.out)) in
+    let m = room_at (positions a.near.now) a.cut_high.now a.n l.r l.count (length l.out) c.loop-r-test.true l.invariant.0 (omega (arith, l.auto.out)) in
+    let stored : l.r < length a.near.now = omega (arith, q.nears, length-map a.near.now position_of) in
+    let at = position_at a.near.now l.r c.index-near-r.result stored ∙ ap position_of (sym c.index-near-r.is) in
+    rw (← at)
     (q.near_short l.r c.loop-r-test.true, omega (arith, c.highest-hi.ensures, q.hi_short l.r c.loop-r-test.true), search rules)
 
 pub loop-r-preserved : goal.loop-r-preserved
 loop-r-preserved c =
     let a = c.args in
     let l = c.loop-r in
-    let m = room_at a.near.now a.cut_high.now a.n l.r l.count (length l.out) c.loop-r-test.true l.invariant.0 (omega (arith, l.auto.out)) in
-    let e = c.write_wire_entries-count.ensures in
+    let m = room_at (positions a.near.now) a.cut_high.now a.n l.r l.count (length l.out) c.loop-r-test.true l.invariant.0 (omega (arith, l.auto.out)) in
+    let q = c.requires.writable in
+    let stored : l.r < length a.near.now = omega (arith, q.nears, length-map a.near.now position_of) in
+    let at = position_at a.near.now l.r c.index-near-r.result stored ∙ ap position_of (sym c.index-near-r.is) in
+    let e = rw (← at) at c.write_wire_entries-count.ensures in
     let hi = his a.cuttable.now in
-    let near = a.near.now in
+    let near = (positions a.near.now) in
     let cut_high = a.cut_high.now in
     let next = wire_entries l.r (get_or near l.r 0) (get_or hi l.r 0) (get_or cut_high l.r false) in
     let k = length-list_of hi near cut_high l.r in

@@ -7,7 +7,7 @@ use Rattle.net.specs.Answered.{answered_err, answered_ok}
 use Rattle.net.specs.Accepted.{net-right}
 use Rattle.net.specs.Stage.{stage_of}
 use Rattle.std.proofs.lemmas.List.{length-map}
-use Rattle.clusters.specs.Positions.{hi_of}
+use Rattle.clusters.specs.Positions.{hi_of, position_of}
 use Rattle.clusters.specs.FitsLaws.{wired_of}
 use Rattle.clusters.specs.HopelessLaws.{none-hopeless}
 use Rattle.repairs.specs.Promise.{no_legal_set}
@@ -84,7 +84,7 @@ write_list-requires-clause-writable c =
     record {
       few = omega (arith, first.n_is, right.sized.few_nodes);
       his = omega (arith, c.first_passes.new.c.few, length-map c.first_passes.new.c.cuttable hi_of);
-      nears = omega (arith, c.first_passes.new.c.few);
+      nears = omega (arith, c.first_passes.new.c.few, length-map c.count_pass-points.new.k.near position_of);
       cuts = omega (arith, c.first_passes.new.c.few);
       near_short = λ r p. plan.listing.near_short r (omega (arith, first.n_is));
       hi_short = λ r p. plan.listing.hi_short r (omega (arith, first.n_is));

@@ -53,6 +53,5 @@ unwrap-requires c =
 pub returns : goal.returns
 returns c =
     let a = c.args in
-    rw c.from-2.ensures
-    (last_within a.nodes.now a.wires.now a.obstacles.now a.i a.ends.lo a.ends.hi a.weight a.limit (Some c.unwrap.result) c.requires.branch c.requires.weight_le_limit.0 c.requires.weight_le_limit.1
-    (rw (c.from.ensures, c.weight_of_step.ensures.0, c.unwrap.ensures) at c.highest_cuttable.ensures))
+    last_within a.nodes.now a.wires.now a.obstacles.now a.i a.ends.lo a.ends.hi a.weight a.limit (Some c.unwrap.result) c.requires.branch c.requires.weight_le_limit.0 c.requires.weight_le_limit.1
+    (rw (c.from.ensures, c.weight_of_step.ensures.0, c.unwrap.ensures) at c.highest_cuttable.ensures)

@@ -59,7 +59,7 @@ loop-r-preserved g c =
     let stored : r < length a.c.now.cuttable = omega arith in
     record {
       counted =
-          rw (c.has_any.ensures, c.any_weight.ensures, c.unwrap_or.ensures)
+          rw (c.has_any.ensures, c.any_weight.ensures)
           (counted-turn a.nodes.now a.wires.now a.obstacles.now a.c.now ready a.limit r inside l.k l.b c.close-x.new.cut_any c.close-x.result c.climb_at-y.result c.close-x.ensures
           (rw (← lo_at a.c.now.cuttable r c.index-c-r.result stored, ← hi_at a.c.now.cuttable r c.index-c-r.result stored) at c.climb_at-y.ensures)
           (record { fewest = omega arith; any_ok = omega arith; any_weight = omega arith; near = omega arith; count = omega arith; lightest = omega arith; ungated = omega arith })
