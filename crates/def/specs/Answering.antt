@@ -9,7 +9,7 @@ use Rattle.net.specs.declared.Answer.{Answer}
 use Rattle.net.specs.File.{file_bytes}
 use Rattle.net.specs.Layout.{most_nodes}
 use Rattle.net.specs.Numbers.{number_of, place_of, answered}
-use Rattle.net.specs.Refusal.{none, refusal, met, is_version, answer, write_refusal, write_answer, write_buffer}
+use Rattle.net.specs.Refusal.{none, refusal, met, answer, write_refusal, write_answer, write_buffer}
 use Rattle.net.specs.Answered.{met_refusal}
 use Rattle.net.specs.First.{first_of_lem, rest_of}
 use Rattle.net.specs.Writing.{write_net}
@@ -20,12 +20,8 @@ use Rattle.def.specs.declared.Written.{Written}
 use Rattle.def.specs.Pins.{pins_refusal}
 use Rattle.def.specs.Written.{written}
 use Rattle.def.specs.Sectioning.{too_many}
+use Rattle.def.specs.Ending.{first_version}
 use Rattle.def.specs.Promise.{def_nodes, def_wires, def_refusal, def_answer, def_buffer}
-
--- 1 is a version of net files
-pub first_version : is_version 1 ≡ true
-unfolding is_version
-first_version = refl
 
 -- the route is met by neither 17 nor 18
 module _ {text : List ℕ} {place : ℕ} {r : Result Route Refusal} (read : RouteRead text place r) {route : Route} (h : r ≡ Ok route) where
@@ -37,23 +33,23 @@ module _ {text : List ℕ} {place : ℕ} {r : Result Route Refusal} (read : Rout
 
 module _ (text : List ℕ) (place : ℕ) (pins obstacles out : List ℕ) where
   -- what the call answers, and what the lent buffer then holds
-  abbrev Wrote : Result Written Refusal → List ℕ → Type 0
-  Wrote r after = (written r ≡ def_answer text place pins obstacles (length out)) × (after ≡ def_buffer text place pins obstacles out)
+  abbrev Answered : Result Written Refusal → List ℕ → Type 0
+  Answered r after = (written r ≡ def_answer text place pins obstacles (length out)) × (after ≡ def_buffer text place pins obstacles out)
 
-  wrote-refused : (r : Refusal) → refusal (number_of r) (place_of r) ≡ def_refusal text place pins obstacles (length out) → Wrote (Err r) out
+  answered-refused : (r : Refusal) → refusal (number_of r) (place_of r) ≡ def_refusal text place pins obstacles (length out) → Answered (Err r) out
   unfolding def_answer def_buffer
-  wrote-refused r q = let m = met_refusal r in (rw (← q, m), rw (← q, m))
+  answered-refused r q = let m = met_refusal r in (rw (← q, m), rw (← q, m))
 
   -- 17 or 18
-  pub wrote-route : (r : Refusal) → refusal (number_of r) (place_of r) ≡ route_refusal text place → Wrote (Err r) out
+  pub answered_route : (r : Refusal) → refusal (number_of r) (place_of r) ≡ route_refusal text place → Answered (Err r) out
   unfolding def_refusal
-  wrote-route r q = wrote-refused r (first_of_lem (route_refusal text place) _ q (met_refusal r))
+  answered_route r q = answered-refused r (first_of_lem (route_refusal text place) _ q (met_refusal r))
 
   module _ (u : none ≡ route_refusal text place) where
     -- 19
-    pub wrote-pins : (r : Refusal) → refusal (number_of r) (place_of r) ≡ pins_refusal (route_nodes text place) pins → Wrote (Err r) out
+    pub answered_pins : (r : Refusal) → refusal (number_of r) (place_of r) ≡ pins_refusal (route_nodes text place) pins → Answered (Err r) out
     unfolding def_refusal
-    wrote-pins r q = wrote-refused r (rest_of (route_refusal text place) _ u refl (first_of_lem (pins_refusal (route_nodes text place) pins) _ q (met_refusal r)))
+    answered_pins r q = answered-refused r (rest_of (route_refusal text place) _ u refl (first_of_lem (pins_refusal (route_nodes text place) pins) _ q (met_refusal r)))
 
     module _ (v : none ≡ pins_refusal (route_nodes text place) pins) where
       def_write : write_refusal 1 (def_nodes text place pins) (def_wires text place) obstacles (length out) ≡ def_refusal text place pins obstacles (length out)
@@ -61,28 +57,28 @@ module _ (text : List ℕ) (place : ℕ) (pins obstacles out : List ℕ) where
       def_write = rest_of (route_refusal text place) _ u refl (rest_of (pins_refusal (route_nodes text place) pins) _ v refl refl)
 
       -- more nodes than a net may have: 4
-      pub wrote-many : most_nodes < length (route_nodes text place) → Wrote (Err NodeSection) out
-      wrote-many l =
+      pub answered-many : most_nodes < length (route_nodes text place) → Answered (Err NodeSection) out
+      answered-many l =
           let t = too_many (route_nodes text place) pins (def_wires text place) obstacles l in
-          wrote-refused NodeSection (write_net 1 (def_nodes text place pins) (def_wires text place) obstacles (length out) _ first_version t refl ∙ def_write)
+          answered-refused NodeSection (write_net 1 (def_nodes text place pins) (def_wires text place) obstacles (length out) _ first_version t refl ∙ def_write)
 
       -- the sections are written, or refused by one of 4 to 11 and 16
       module _ {ns ws after : List ℕ} (n : ns ≡ def_nodes text place pins) (w : ws ≡ def_wires text place) where
-        pub wrote-unwritten : (r : Refusal) → (answered (Err r) ≡ write_answer 1 ns ws obstacles (length out)) × (after ≡ write_buffer 1 ns ws obstacles out) → Wrote (Err r) after
+        pub answered-unwritten : (r : Refusal) → (answered (Err r) ≡ write_answer 1 ns ws obstacles (length out)) × (after ≡ write_buffer 1 ns ws obstacles out) → Answered (Err r) after
         unfolding write_answer write_buffer answer
-        wrote-unwritten r h =
+        answered-unwritten r h =
             let wr = write_refusal 1 ns ws obstacles (length out) in
             let a : number_of r ≡ wr.number = ap (λ (a : Answer). a.number) h.0 in
             let b : place_of r ≡ wr.place = ap (λ (a : Answer). a.place) h.0 in
             let e : refusal (number_of r) (place_of r) ≡ wr = rw (a, b) in
             let q : wr ≡ def_refusal text place pins obstacles (length out) = rw (n, w) def_write in
             let m : met wr ≡ true = rw (← e) (met_refusal r) in
-            rw (h.1, m) (wrote-refused r (e ∙ q))
+            rw (h.1, m) (answered-refused r (e ∙ q))
 
-        pub wrote-written : {bytes end : ℕ} → end ≡ route_end text place
-            → (answered (Ok bytes) ≡ write_answer 1 ns ws obstacles (length out)) × (after ≡ write_buffer 1 ns ws obstacles out) → Wrote (Ok (record { end = end; bytes = bytes })) after
+        pub answered-written : {bytes end : ℕ} → end ≡ route_end text place
+            → (answered (Ok bytes) ≡ write_answer 1 ns ws obstacles (length out)) × (after ≡ write_buffer 1 ns ws obstacles out) → Answered (Ok (record { end = end; bytes = bytes })) after
         unfolding write_answer write_buffer answer def_answer def_buffer
-        wrote-written {bytes} s h =
+        answered-written {bytes} s h =
             let wr = write_refusal 1 ns ws obstacles (length out) in
             let z : 0 ≡ wr.number = ap (λ (a : Answer). a.number) h.0 in
             let m : met wr ≡ false = rw (← z) in

@@ -8,6 +8,7 @@ pub mod Distinct
 pub mod WrittenLaws
 pub mod JoiningLaws
 pub mod Sectioning
+pub mod Ending
 pub mod Answering
 pub mod Accepted
 pub mod Numbers
