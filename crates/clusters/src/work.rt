@@ -26,7 +26,7 @@ pub struct Clusters<const N: usize> {
     pub cuttable: [Option<Cuttable>; N],
     // the lowest node of each node's cluster
     pub root: [usize; N],
-    // the root of the cluster that a branch hangs on, 0 for a node that is no branch
+    // the root of the cluster that a branch hangs on, 0 for a node that is no branch: cuttable says which is one, so an Option would be asked twice
     pub host: [usize; N],
     // the lowest node of each node's uncut component
     pub component: [usize; N],

@@ -22,6 +22,7 @@ pub fn read_input<R: Read>(from: &mut R, input: &mut [u8]) -> io::Result<usize>
     ensures bytes { IfSome (R.remaining from.old) (λ xs. IfOk result (λ n. take n input.new ≡ take (length input.old) xs)) }
 {
     let mut got = 0;
+    // by as much as each read gives: no range has it
     while got < input.len() {
         let n = from.read(&mut input[got..])?;
         if n == 0 {

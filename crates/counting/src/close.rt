@@ -123,6 +123,7 @@ fn cut_heaviest<const N: usize>(
 {
     let mut left = c.fixed[r] + branches;
     let mut cuts = 0;
+    // until the weight is within the limit: no index
     while limit < left {
         // more than the fixed weight is left, so a branch with weight is not cut yet
         let Some(at) = heaviest(c, b, cut_any, r) else {

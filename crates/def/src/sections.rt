@@ -8,7 +8,7 @@ ghost use Rattle.def.specs.Written.{flagged_node, flagged_nodes};
 use net::layout::{NODE_BYTES, WIRE_BYTES};
 use routes::Node;
 
-// The nodes with their flags, one behind the other.
+// The nodes with their flags, one behind the other. It and write_wires stay two: one function would take a closure with a contract for each record.
 pub fn write_nodes(nodes: &[Node], flags: &[u8], out: &mut [u8])
     requires { (length nodes.now ≤ length flags.now) × (node_bytes * length nodes.now ≤ length out.old) }
     ensures { out.new ≡ over (flagged_nodes nodes.now flags.now) out.old }

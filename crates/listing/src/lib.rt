@@ -43,7 +43,7 @@ fn write_wire_entries(
     written
 }
 
-// The highest position of wire r that may be cut, 0 where there is none.
+// The highest position of wire r that may be cut, 0 where there is none: it is written only of wires that are cut, so an Option would be no plainer.
 fn highest(cuttable: &[Option<Cuttable>], r: usize) -> u32
     requires { r < length cuttable.now }
     ensures { result ≡ get_or (his cuttable.now) r 0 }

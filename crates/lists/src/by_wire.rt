@@ -14,7 +14,7 @@ use net::layout::ENTRY_BYTES;
 use net::refusal::Refusal;
 use points::{is_barred, length_of};
 
-// The length of wire i, or 0 where there is no such wire or the stage does not have it.
+// The length of wire i, or 0 where there is no such wire or the stage does not have it: an Option would be no plainer, one test serves a wire without steps too.
 fn present_length(net: Net, stage: u8, i: usize) -> u32
     ensures { result ≡ present_length net.entry.nodes.now net.entry.wires.now stage i }
 {

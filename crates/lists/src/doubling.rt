@@ -21,6 +21,7 @@ fn doubled_step(jumpers: &[u8], i: usize, e: usize) -> usize
         × (e + result < entry_count jumpers.now → entry_wire jumpers.now (e + result) ≡ i → ⊥) }
 {
     let mut step = 1;
+    // the step doubles: no range has it
     while is_of_wire(jumpers, i, e + step) {
         step = 2 * step;
     }
@@ -41,6 +42,7 @@ pub fn entries_end(jumpers: &[u8], i: usize, e: usize) -> usize
     let mut step = doubled_step(jumpers, i, e);
     let mut end = e + step / 2 + 1;
     step = (step - 1) / 2;
+    // the step halves
     while 0 < step {
         step = step / 2;
         if is_of_wire(jumpers, i, end + step) {

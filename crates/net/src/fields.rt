@@ -34,7 +34,7 @@ pub struct Obstacle {
     pub layer: u8,
 }
 
-// The little-endian number of 16 bits at a place.
+// The little-endian number of 16 bits at a place. It and the next stay two: each is one call of std, and a trait over both widths would be longer.
 pub fn u16_at(bytes: &[u8], at: usize) -> u16
     requires { at + 1 < length bytes.now }
     ensures { result ≡ le16 bytes.now at }

@@ -25,6 +25,7 @@ pub struct Answer {
 // An accepted net: its version and sections, on which none of 4 to 11 and 20 is met.
 #[derive(Clone, Copy)]
 pub struct Net<'a> {
+    // The number that the file and C have; an enum of two would ask more of who passes one.
     pub version: u16,
     pub nodes: &'a [u8],
     pub wires: &'a [u8],

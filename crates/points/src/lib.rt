@@ -96,7 +96,7 @@ fn highest_free(obstacles: &[u8], line: Line, last: u32) -> Option<u32>
     None
 }
 
-// The search up, for positions below `end`.
+// The search up, for positions below `end`; with a direction as a parameter both searches would take each comparison twice.
 fn lowest_free(obstacles: &[u8], line: Line, first: u32, end: u32) -> Option<u32>
     requires { Reaches line end × (0 < first) }
     ensures { Lowest (barred_at newest obstacles.now line) first end result }

@@ -71,7 +71,7 @@ fn write_layers(rest: &mut [u8], layers: u16)
     rest[11] = lowest_layer(layers);
 }
 
-// The lowest layer of a mask, or 0 where it is empty.
+// The lowest layer of a mask, or 0 where it is empty, as the byte of a record has it.
 fn lowest_layer(layers: u16) -> u8
     ensures { result ≡ lowest_of layers }
 {

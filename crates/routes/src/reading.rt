@@ -19,6 +19,7 @@ pub fn read_route(text: &[u8], place: usize) -> Result<Route, Refusal>
     let mut found = Some(Found { count: 0, last: 0 });
     let mut points = 0;
     let mut read = begin(text, start_of(text, place)).map_err(|w| Refusal::RouteForm(w.0 as u64))?;
+    // until the text ends or leaves the form: no index
     loop {
         match read {
             Read::End(end) => {
