@@ -1,7 +1,7 @@
 -- Laws of the points of a wire, on both axes, and of the search along its line.
 -- Assumes nothing.
 use Rattle.std.specs.Prelude.{ℕ, ◌<◌, ◌≤◌, ◌≡◌, ◌⊎◌, Bool, true, false, ◌&&◌, List, get_or, leb, ltb, Option, None, Some, MatchOption, is_some}
-use Rattle.std.proofs.Common.{sym, ◌∙◌, arith, ltb-true, ltb-false, leb-true, leb-false}
+use Rattle.std.proofs.Common.{refl, ne_eqb, sym, ◌∙◌, arith, ltb-true, ltb-false, leb-true, leb-false}
 use Rattle.laws.specs.Sum.{any}
 use Rattle.laws.specs.Sums.{by, and_left, and_right, and_intro, any-yes, any_none}
 use Rattle.net.specs.Layout.{newest}
@@ -154,3 +154,8 @@ pub lowest_ap : {b d : ℕ → Bool} (x end : ℕ) (r : Option ℕ) → ((t : �
 lowest_ap x end None e h = λ t l m. sym (e t) ∙ h t l m
 lowest_ap x end (Some r) e h =
     record { from = h.from; within = h.within; free = sym (e r) ∙ h.free; below = λ t l m. sym (e t) ∙ h.below t l m }
+
+-- obstacles of every version but the first are read as those of the newest
+pub barred_newest : (v : ℕ) (ns ws os : List ℕ) (i t : ℕ) → (v ≡ 1 → ⊥) → barred newest ns ws os i t ≡ barred v ns ws os i t
+unfolding barred holds
+barred_newest v ns ws os i t h = rw (ne_eqb v 1 h) refl

@@ -13,7 +13,7 @@ mod line;
 use crate::line::Line;
 pub use crate::line::Point;
 use net::fields::{Obstacle, node_at, obstacle_at, obstacle_count, wire_at};
-use net::layout::NEWEST_VERSION;
+use net::layout::{FIRST_VERSION, NEWEST_VERSION};
 
 // The length of wire i.
 pub fn length_of(nodes: &[u8], wires: &[u8], i: usize) -> u32
@@ -49,7 +49,13 @@ pub fn is_barred(
     if obstacles.is_empty() {
         return false;
     }
-    first_barring(version, obstacles, Line::of_wire(nodes, wires, i), t).is_some()
+    let line = Line::of_wire(nodes, wires, i);
+    // a search for each version, so that none asks for it at every obstacle
+    if version == FIRST_VERSION {
+        first_barring(FIRST_VERSION, obstacles, line, t).is_some()
+    } else {
+        first_barring(NEWEST_VERSION, obstacles, line, t).is_some()
+    }
 }
 
 // The highest position of wire i from 1 to x that is not barred.

@@ -35,6 +35,10 @@ impl Word<'_> {
     pub fn spells(self, bytes: &[u8]) -> bool
         ensures { result ≡ same self.entry.bytes.now bytes.now }
     {
+        // most words of a route have one byte, and std compares longer ones in groups
+        if let ([a], [b]) = (self.bytes, bytes) {
+            return a == b;
+        }
         self.bytes == bytes
     }
 
