@@ -7,24 +7,31 @@ ghost use Rattle.pieces.specs.Report.{report_of};
 ghost use Rattle.records.specs.NetWithJumpers.{AtNet, RecordsFit};
 
 use crate::NetWithJumpers;
-use crate::wire::{Places, take_wire};
+use crate::wire::take_wire;
 use lists::doubling::entries_end;
 use net::fields::node_count;
 use net::layout::MOST_NODES;
+
+// Takes wire after wire; for each node the place of its piece's record is kept.
+fn take_wires(net: NetWithJumpers, limit: u32, places: &mut [usize], out: &mut [u8])
+    requires nodes_in_bounds { node_count net.nodes.now ≤ length places.old }
+    requires records_fit { RecordsFit net limit out.old }
+    ensures { AtNet net.entry (λ s. out.new ≡ over (report_of s limit (set_of net.entry.jumpers.now)) out.old) }
+{
+    let mut at = 0;
+    let mut e = 0;
+    for i in 0..node_count(net.nodes) {
+        let end = entries_end(net.jumpers, i, e);
+        at = take_wire(net, limit, i, e..end, places, out, at);
+        e = end;
+    }
+}
 
 // The records of all pieces, once 16 has been tried.
 pub fn write_records(net: NetWithJumpers, limit: u32, out: &mut [u8])
     requires { RecordsFit net limit out.old }
     ensures { AtNet net.entry (λ s. out.new ≡ over (report_of s limit (set_of net.entry.jumpers.now)) out.old) }
 {
-    let mut places = Places {
-        of_node: [0; MOST_NODES],
-        end: 0,
-    };
-    let mut e = 0;
-    for i in 0..node_count(net.nodes) {
-        let end = entries_end(net.jumpers, i, e);
-        take_wire(net, limit, i, e..end, &mut places, out);
-        e = end;
-    }
+    let mut places = [0usize; MOST_NODES];
+    take_wires(net, limit, &mut places, out);
 }

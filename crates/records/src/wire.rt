@@ -16,7 +16,7 @@ use crate::NetWithJumpers;
 use crate::record::{Record, join_record};
 use lists::entries::entry_position;
 use net::fields::{Wire, is_present, node_at, wire_at};
-use net::layout::{MOST_NODES, RECORD_BYTES};
+use net::layout::RECORD_BYTES;
 use points::length_of;
 use std::ops::Range;
 
@@ -46,15 +46,6 @@ pub fn layers_of(steps: u32, layer: u8) -> u16
     mask_of(layer)
 }
 
-// Where the records of the nodes and wires taken so far stand.
-#[derive(Drop)]
-pub(crate) struct Places {
-    // for each node, where its piece's record begins
-    pub of_node: [usize; MOST_NODES],
-    // where the records end
-    pub end: usize,
-}
-
 // Node i begins a piece, whose record comes behind the others.
 fn start_piece(
     limit: u32,
@@ -62,16 +53,17 @@ fn start_piece(
     weight: u64,
     flags: u8,
     layers: u16,
-    places: &mut Places,
+    places: &mut [usize],
     out: &mut [u8],
-)
-    requires { (i < most_nodes) × (flags < 4) × (places.old.end + record_bytes ≤ length out.old) }
-    ensures { (places.new.end ≡ places.old.end + record_bytes) × (places.new.of_node ≡ set places.old.of_node i places.old.end)
-        × (out.new ≡ place places.old.end (node_fields limit i weight flags layers) out.old) }
+    at: usize,
+) -> usize
+    requires { (i < most_nodes) × (i < length places.old) × (flags < 4) × (at + record_bytes ≤ length out.old) }
+    ensures { (result ≡ at + record_bytes) × (places.new ≡ set places.old i at)
+        × (out.new ≡ place at (node_fields limit i weight flags layers) out.old) }
 {
-    places.of_node[i] = places.end;
-    Record::of_piece(limit, i, weight, flags, layers).write(&mut out[places.end..]);
-    places.end += RECORD_BYTES;
+    places[i] = at;
+    Record::of_piece(limit, i, weight, flags, layers).write(&mut out[at..]);
+    at + RECORD_BYTES
 }
 
 // The records of the stretches between some entries of wire i.
@@ -106,16 +98,15 @@ pub fn write_stretches(
 }
 
 // A wire without a jumper: its steps and node i are in its parent's piece.
-fn join_wire(net: NetWithJumpers, limit: u32, i: usize, places: &mut Places, out: &mut [u8])
-    requires { WireReady net.nodes.now net.wires.now i places.old.of_node out.old }
-    ensures { (places.new.end ≡ places.old.end)
-        × (places.new.of_node ≡ set places.old.of_node i (get_or places.old.of_node (wire_parent net.entry.wires.now i) 0))
-        × (out.new ≡ joined_wire limit net.entry.nodes.now net.entry.wires.now i places.old.of_node out.old) }
+fn join_wire(net: NetWithJumpers, limit: u32, i: usize, places: &mut [usize], out: &mut [u8])
+    requires { WireReady net.nodes.now net.wires.now i places.old out.old }
+    ensures { (places.new ≡ set places.old i (get_or places.old (wire_parent net.entry.wires.now i) 0))
+        × (out.new ≡ joined_wire limit net.entry.nodes.now net.entry.wires.now i places.old out.old) }
 {
     let wire = wire_at(net.wires, i);
-    let above = places.of_node[wire.parent];
+    let above = places[wire.parent];
     let len = length_of(net.nodes, net.wires, i);
-    places.of_node[i] = above;
+    places[i] = above;
     join_record(
         &mut out[above..],
         limit,
@@ -131,23 +122,24 @@ fn part_wire(
     limit: u32,
     i: usize,
     entries: Range<usize>,
-    places: &mut Places,
+    places: &mut [usize],
     out: &mut [u8],
-)
-    requires wire_ready { WireReady net.nodes.now net.wires.now i places.old.of_node out.old }
+    at: usize,
+) -> usize
+    requires wire_ready { WireReady net.nodes.now net.wires.now i places.old out.old }
     requires entries_ready { EntriesReady net.nodes.now net.wires.now net.jumpers.now i entries.start entries.end }
-    requires room { places.old.end + record_bytes * (entries.end - entries.start) ≤ length out.old }
-    ensures { (places.new.end ≡ places.old.end + record_bytes * (entries.end - entries.start)) × (places.new.of_node ≡ set places.old.of_node i places.old.end)
-        × (out.new ≡ parted_wire limit net.entry.nodes.now net.entry.wires.now net.entry.jumpers.now i entries.start entries.end places.old.of_node places.old.end out.old) }
+    requires room { at + record_bytes * (entries.end - entries.start) ≤ length out.old }
+    ensures { (result ≡ at + record_bytes * (entries.end - entries.start)) × (places.new ≡ set places.old i at)
+        × (out.new ≡ parted_wire limit net.entry.nodes.now net.entry.wires.now net.entry.jumpers.now i entries.start entries.end places.old at out.old) }
 {
     let wire = wire_at(net.wires, i);
-    let above = places.of_node[wire.parent];
+    let above = places[wire.parent];
     let mask = mask_of(wire.layer);
     let first = entry_position(net.jumpers, entries.start);
     let last = entry_position(net.jumpers, entries.end - 1);
     let end_weight = weight_of(length_of(net.nodes, net.wires, i) - last, wire.factor);
     join_record(&mut out[above..], limit, end_weight, 0, mask);
-    start_piece(
+    let behind = start_piece(
         limit,
         i,
         weight_of(first, wire.factor),
@@ -155,31 +147,35 @@ fn part_wire(
         mask,
         places,
         out,
+        at,
     );
-    places.end = write_stretches(net.jumpers, i, entries, wire, out, places.end);
+    write_stretches(net.jumpers, i, entries, wire, out, behind)
 }
 
 // Node i with its wire, whose entries in the list are those: the buffer, which begins with the records of the nodes below i, then begins with those of the
-// nodes up to i.
+// nodes up to i; where they end.
 pub(crate) fn take_wire(
     net: NetWithJumpers,
     limit: u32,
     i: usize,
     entries: Range<usize>,
-    places: &mut Places,
+    places: &mut [usize],
     out: &mut [u8],
-)
+    at: usize,
+) -> usize
     requires i_bound { (i < node_count net.nodes.now) × OfWire net.jumpers.now (entry_count net.jumpers.now) i entries.start entries.end }
+    requires nodes_in_bounds { node_count net.nodes.now ≤ length places.old }
     requires records_fit { RecordsFit net limit out.old }
-    requires held_below { HeldAtNet net limit i places.old.of_node places.old.end out.old }
-    ensures { HeldAtNet net.entry limit (i + 1) places.new.of_node places.new.end out.new
-        × (drop places.new.end out.new ≡ drop places.new.end out.old) }
+    requires held_below { HeldAtNet net limit i places.old at out.old }
+    ensures { HeldAtNet net.entry limit (i + 1) places.new result out.new
+        × (drop result out.new ≡ drop result out.old) }
 {
     if !is_present(net.stage, net.wires, i) {
-        start_piece(limit, i, 0, node_at(net.nodes, i).flags, 0, places, out);
-    } else if entries.is_empty() {
-        join_wire(net, limit, i, places, out);
-    } else {
-        part_wire(net, limit, i, entries, places, out);
+        return start_piece(limit, i, 0, node_at(net.nodes, i).flags, 0, places, out, at);
     }
+    if entries.is_empty() {
+        join_wire(net, limit, i, places, out);
+        return at;
+    }
+    part_wire(net, limit, i, entries, places, out, at)
 }

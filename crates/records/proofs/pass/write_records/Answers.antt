@@ -1,62 +1,10 @@
 -- `records::pass::write_records` meets its contract.
 -- Assumes nothing.
-use Rattle.std.proofs.Common.{◌≡◌, refl, arith}
-use Rattle.net.specs.Net.{node_count}
-use Rattle.records.specs.Reached.{reached_none, reached_first, reached_wire, reached_next}
-use Rattle.records.specs.Taken.{taken_none, taken_rest, taken_all}
 use Rattle.records.specs.NetWithJumpers.{accepted_of}
 use Rattle.records.proofs.pass.write_records.Goals as goal
 
-pub loop-i-init : goal.loop-i-init
-loop-i-init c =
-    let a = c.args in
-    record {
-      reached = reached_none a.net.jumpers.now;
-      held = taken_none a.net.nodes.now a.net.wires.now a.net.jumpers.now a.net.stage a.limit _ a.out.now;
-      behind = refl;
-    }
-
-pub entries_end-end-requires : goal.entries_end-end-requires
-entries_end-end-requires c =
-    let a = c.args in
-    let r = c.loop-i.invariant.reached in
-    record {
-      e_bound = r.inside;
-      by_index = reached_first _ _ _ _ (accepted_of a.net) c.loop-i.i c.loop-i.e r;
-    }
-
-pub take_wire-requires : goal.take_wire-requires
-take_wire-requires c =
-    let a = c.args in
-    let v = c.loop-i.invariant in
-    let n = c.entries_end-end.ensures in
-    record {
-      i_bound = (
-        omega (arith, c.node_count-i-end.ensures),
-        reached_wire _ _ _ _ (accepted_of a.net) c.loop-i.i c.loop-i.e c.entries_end-end.result v.reached n.0 n.1 n.2 n.3,
-      );
-      records_fit = λ w os j. omega (arith, c.requires w os j);
-      held_below = v.held;
-    }
-
-pub loop-i-preserved : goal.loop-i-preserved
-loop-i-preserved c =
-    let a = c.args in
-    let v = c.loop-i.invariant in
-    let n = c.entries_end-end.ensures in
-    let w = reached_wire _ _ _ _ (accepted_of a.net) c.loop-i.i c.loop-i.e c.entries_end-end.result v.reached n.0 n.1 n.2 n.3 in
-    let t = c.take_wire.ensures in
-    record {
-      reached = reached_next _ _ _ _ (accepted_of a.net) c.loop-i.i c.loop-i.e c.entries_end-end.result w;
-      held = t.0;
-      behind = taken_rest a.out.now (accepted_of a.net) v.held t.0 v.behind t.1;
-    }
+pub take_wires-requires : goal.take_wires-requires
+take_wires-requires c = record { nodes_in_bounds = (accepted_of c.args.net).2.right.sized.few_nodes; records_fit = c.requires }
 
 pub returns : goal.returns
-returns c =
-    λ version os j.
-    let a = c.args in
-    let v = c.loop-i.invariant in
-    let all : c.loop-i.i ≡ node_count a.net.nodes.now = omega (arith, c.node_count-i-end.ensures) in
-    taken_all version a.net.nodes.now a.net.wires.now a.net.jumpers.now os a.net.stage a.limit j c.loop-i.places.of_node c.loop-i.places.end c.loop-i.out a.out.now
-    (rw all at (v.held version os j)) v.behind
+returns c = c.take_wires.ensures

@@ -38,38 +38,38 @@ above-joined limit ns ws list places i end out x {p} {n} {t} {w} {m} pe ne te we
     placed-joined limit (get_or places p 0) w 0 m _ _ _ _ out x (same_place places pe) weight refl me e
 
 pub slice_bounds-join_record-count : goal.slice_bounds-join_record-count
-slice_bounds-join_record-count c = omega (arith, room_there c.args.places.now.of_node c.args.out.now c.wire_at-wire.ensures.parent c.requires.wire_ready.above)
+slice_bounds-join_record-count c = omega (arith, room_there c.args.places.now c.args.out.now c.wire_at-wire.ensures.parent c.requires.wire_ready.above)
 
 pub slice_bounds-join_record-start : goal.slice_bounds-join_record-start
-slice_bounds-join_record-start c = omega (arith, room_there c.args.places.now.of_node c.args.out.now c.wire_at-wire.ensures.parent c.requires.wire_ready.above)
+slice_bounds-join_record-start c = omega (arith, room_there c.args.places.now c.args.out.now c.wire_at-wire.ensures.parent c.requires.wire_ready.above)
 
 pub join_record-requires : goal.join_record-requires
 join_record-requires c =
     let a = c.args in
-    let above = get_or a.places.now.of_node c.wire_at-wire.result.parent 0 in (
-      part-long above record_bytes a.out.now (room_there a.places.now.of_node a.out.now c.wire_at-wire.ensures.parent c.requires.wire_ready.above),
-      part_record above _ a.out.now (same_place a.places.now.of_node c.wire_at-wire.ensures.parent) c.requires.wire_ready.stands,
+    let above = get_or a.places.now c.wire_at-wire.result.parent 0 in (
+      part-long above record_bytes a.out.now (room_there a.places.now a.out.now c.wire_at-wire.ensures.parent c.requires.wire_ready.above),
+      part_record above _ a.out.now (same_place a.places.now c.wire_at-wire.ensures.parent) c.requires.wire_ready.stands,
       c.weight_of-end_weight.ensures.1 (omega (arith, c.length_of.ensures.1)),
       omega arith,
     )
 
-pub start_piece-requires : goal.start_piece-requires
-start_piece-requires c =
+pub start_piece-behind-requires : goal.start_piece-behind-requires
+start_piece-behind-requires c =
     let a = c.args in
     let mask = rw c.wire_at-wire.ensures.layer at c.mask_of-mask.ensures in
     let buffer =
-    above-joined a.limit a.net.nodes.now a.net.wires.now a.net.jumpers.now a.places.now.of_node a.i a.entries.end a.out.now c.join_record.new.rest
+    above-joined a.limit a.net.nodes.now a.net.wires.now a.net.jumpers.now a.places.now a.i a.entries.end a.out.now c.join_record.new.rest
     c.wire_at-wire.ensures.parent c.length_of.ensures.0 c.entry_position-last.ensures (rw c.wire_at-wire.ensures.factor at c.weight_of-end_weight.ensures.0) mask c.join_record.ensures in
     let long = ap length buffer ∙ joined_above_length a.limit _ _ _ _ a.out.now c.requires.wire_ready.above in
     let r = c.requires.wire_ready in
-    (r.small, omega (arith, c.node_at.ensures.flags, r.flags), omega (arith, long, c.requires.entries_ready.some, c.requires.room))
+    (r.small, r.room, omega (arith, c.node_at.ensures.flags, r.flags), omega (arith, long, c.requires.entries_ready.some, c.requires.room))
 
-pub write_stretches-places-requires : goal.write_stretches-places-requires
-write_stretches-places-requires c =
+pub write_stretches-requires : goal.write_stretches-requires
+write_stretches-requires c =
     let a = c.args in
     let mask = rw c.wire_at-wire.ensures.layer at c.mask_of-mask.ensures in
     let buffer =
-    above-joined a.limit a.net.nodes.now a.net.wires.now a.net.jumpers.now a.places.now.of_node a.i a.entries.end a.out.now c.join_record.new.rest
+    above-joined a.limit a.net.nodes.now a.net.wires.now a.net.jumpers.now a.places.now a.i a.entries.end a.out.now c.join_record.new.rest
     c.wire_at-wire.ensures.parent c.length_of.ensures.0 c.entry_position-last.ensures (rw c.wire_at-wire.ensures.factor at c.weight_of-end_weight.ensures.0) mask c.join_record.ensures in
     let long = ap length buffer ∙ joined_above_length a.limit _ _ _ _ a.out.now c.requires.wire_ready.above in
     let r = c.requires.wire_ready in
@@ -77,27 +77,27 @@ write_stretches-places-requires c =
     record {
       i_lt_most_nodes = (r.small, omega (arith, t.some), t.inside, omega (arith, c.wire_at-wire.ensures.layer, r.low), omega (arith, c.wire_at-wire.ensures.layer, r.high));
       by_index = t.rise;
-      room = omega (arith, t.some, c.requires.room, c.start_piece.ensures.0, c.start_piece.auto.out, long);
+      room = omega (arith, t.some, c.requires.room, c.start_piece-behind.ensures.0, c.start_piece-behind.auto.out, long);
     }
 
 pub returns : goal.returns
 returns c =
-    let z = c.write_stretches-places in
+    let z = c.write_stretches in
     let a = c.args in
     let w = wire_factor a.net.wires.now a.i in
     let t = c.requires.entries_ready in
     let mask = rw c.wire_at-wire.ensures.layer at c.mask_of-mask.ensures in
     let buffer =
-    above-joined a.limit a.net.nodes.now a.net.wires.now a.net.jumpers.now a.places.now.of_node a.i a.entries.end a.out.now c.join_record.new.rest
+    above-joined a.limit a.net.nodes.now a.net.wires.now a.net.jumpers.now a.places.now a.i a.entries.end a.out.now c.join_record.new.rest
     c.wire_at-wire.ensures.parent c.length_of.ensures.0 c.entry_position-last.ensures (rw c.wire_at-wire.ensures.factor at c.weight_of-end_weight.ensures.0) mask c.join_record.ensures in
     let long = ap length buffer ∙ joined_above_length a.limit _ _ _ _ a.out.now c.requires.wire_ready.above in
     let q = fields-length a.i 0 (entry_position a.net.jumpers.now a.entries.start * w) (with_harm a.limit (entry_position a.net.jumpers.now a.entries.start * w) (node_flags a.net.nodes.now a.i)) (2 ^ (wire_layer a.net.wires.now a.i - 1)) in
     let r = stretches-length a.net.jumpers.now a.i w (wire_layer a.net.wires.now a.i) a.entries.start (a.entries.end - a.entries.start - 1) in (
-      omega (arith, z.ensures.0, c.start_piece.ensures.0, t.some),
-      c.start_piece.ensures.1,
-      behind-place a.places.now.end c.start_piece.new.places.end
+      omega (arith, z.ensures.0, c.start_piece-behind.ensures.0, t.some),
+      c.start_piece-behind.ensures.1,
+      behind-place a.at c.start_piece-behind.result
           (same-fields a.limit a.i (rw (c.wire_at-wire.ensures.factor, c.entry_position-first.ensures) at c.weight_of.ensures.0) c.node_at.ensures.flags mask)
           (same-stretches a.net.jumpers.now a.i a.entries.start (a.entries.end - a.entries.start - 1) c.wire_at-wire.ensures.factor c.wire_at-wire.ensures.layer)
-          buffer (omega (arith, c.start_piece.ensures.0, q)) (omega (arith, t.some, c.requires.room, q, r, long, ap length buffer))
-          c.start_piece.ensures.2 z.ensures.1,
+          buffer (omega (arith, c.start_piece-behind.ensures.0, q)) (omega (arith, t.some, c.requires.room, q, r, long, ap length buffer))
+          c.start_piece-behind.ensures.2 z.ensures.1,
     )

@@ -11,6 +11,6 @@ returns c =
     let r = c.of_piece.ensures in (
       refl,
       refl,
-      placed_record a.places.now.end (length a.out.now - a.places.now.end) a.out.now c.write.new.rest a.i 0 a.weight (with_harm a.limit a.weight a.flags) a.layers (omega arith)
+      placed_record a.at (length a.out.now - a.at) a.out.now c.write.new.rest a.i 0 a.weight (with_harm a.limit a.weight a.flags) a.layers (omega arith)
           (rw (r.0, r.1, r.2, r.3, r.4) at c.write.ensures),
     )

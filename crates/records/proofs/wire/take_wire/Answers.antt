@@ -6,7 +6,6 @@ use mathlib.Core.List.{List}
 use Rattle.std.proofs.Common.{arith}
 use Rattle.std.proofs.lemmas.Bool.Decides.{nat_tests}
 use lib.ListN.{length}
-use Rattle.net.specs.Layout.{most_nodes}
 use Rattle.net.specs.Net.{node_count}
 use Rattle.records.specs.declared.NetWithJumpers.{NetWithJumpers}
 use Rattle.records.specs.ListRight.{ListRight}
@@ -17,11 +16,11 @@ use Rattle.records.proofs.wire.take_wire.Goals as goal
 
 -- what the call may rely on, whatever obstacles the net and the list are accepted with, and with those that they are accepted with
 module _ (net : NetWithJumpers) (limit i : ℕ) (places : List ℕ) (at : ℕ) (out : List ℕ) (below : i < node_count net.nodes.now)
-    (long : most_nodes ≤ length places) (fit : RecordsFit net limit out) (held : HeldAtNet net limit i places at out)
+    (room : node_count net.nodes.now ≤ length places) (fit : RecordsFit net limit out) (held : HeldAtNet net limit i places at out)
   where
     ready : (v : ℕ) (os : List ℕ) → ListRight v net.nodes.now net.wires.now net.stage net.jumpers.now os →
         ListReady v net.nodes.now net.wires.now net.jumpers.now os net.stage limit i places at out
-    ready v os j = record { right = j; nodes = net.bytes.0; wires = net.bytes.1; below = below; room = omega (arith, long, (accepted_of net).2.right.sized.few_nodes); fit = fit v os j; held = held v os j }
+    ready v os j = record { right = j; nodes = net.bytes.0; wires = net.bytes.1; below = below; room = room; fit = fit v os j; held = held v os j }
 
     ready_here : ListReady (accepted_of net).0 net.nodes.now net.wires.now net.jumpers.now (accepted_of net).1 net.stage limit i places at out
     ready_here = ready (accepted_of net).0 (accepted_of net).1 (accepted_of net).2
@@ -36,10 +35,11 @@ start_piece-requires c =
     let a = c.args in
     let r = c.requires in
     let here =
-    ready_here a.net a.limit a.i a.places.now.of_node a.places.now.end a.out.now
-    r.i_bound.0 (omega arith) r.records_fit r.held_below in
+    ready_here a.net a.limit a.i a.places.now a.at a.out.now
+    r.i_bound.0 r.nodes_in_bounds r.records_fit r.held_below in
     let h = r.i_bound.0 in (
       node-small _ _ _ _ (accepted_of a.net) a.i h,
+      omega (arith, h, r.nodes_in_bounds),
       omega (arith, c.node_at.ensures.flags, (accepted_of a.net).2.right.flags a.i h),
       absent-room here (sym c.is_present.ensures ∙ c.if-not-is_present.true),
     )
@@ -49,19 +49,19 @@ returns-then-not-is_present c =
     let a = c.args in
     let r = c.requires in
     let all =
-    ready a.net a.limit a.i a.places.now.of_node a.places.now.end a.out.now
-    r.i_bound.0 (omega arith) r.records_fit r.held_below in
+    ready a.net a.limit a.i a.places.now a.at a.out.now
+    r.i_bound.0 r.nodes_in_bounds r.records_fit r.held_below in
     let e = c.start_piece.ensures in
     taken_wire (accepted_of a.net)
-    (λ v os j. taken_absent (all v os j) (sym c.is_present.ensures ∙ c.if-not-is_present.true) c.node_at.result.flags c.start_piece.new.places.end c.node_at.ensures.flags e.0 e.1 e.2)
+    (λ v os j. taken_absent (all v os j) (sym c.is_present.ensures ∙ c.if-not-is_present.true) c.node_at.result.flags c.start_piece.result c.node_at.ensures.flags e.0 e.1 e.2)
 
 pub join_wire-requires : goal.join_wire-requires
 join_wire-requires c =
     let a = c.args in
     let r = c.requires in
     let here =
-    ready_here a.net a.limit a.i a.places.now.of_node a.places.now.end a.out.now
-    r.i_bound.0 (omega arith) r.records_fit r.held_below in
+    ready_here a.net a.limit a.i a.places.now a.at a.out.now
+    r.i_bound.0 r.nodes_in_bounds r.records_fit r.held_below in
     taken_ready here (sym c.is_present.ensures ∙ c.if-not-is_present.false)
 
 pub returns-then-is_empty : goal.returns-then-is_empty
@@ -69,20 +69,19 @@ returns-then-is_empty c =
     let a = c.args in
     let r = c.requires in
     let all =
-    ready a.net a.limit a.i a.places.now.of_node a.places.now.end a.out.now
-    r.i_bound.0 (omega arith) r.records_fit r.held_below in
+    ready a.net a.limit a.i a.places.now a.at a.out.now
+    r.i_bound.0 r.nodes_in_bounds r.records_fit r.held_below in
     let e = c.join_wire.ensures in
-    rw e.0
-    (taken_wire (accepted_of a.net)
-    (λ v os j. taken_joined (all v os j) (sym c.is_present.ensures ∙ c.if-not-is_present.false) a.entries.start a.entries.end r.i_bound.1 (grind (arith, nat_tests, r.i_bound.1.ordered, c.if-is_empty.ensures)) e.1 e.2))
+    taken_wire (accepted_of a.net)
+    (λ v os j. taken_joined (all v os j) (sym c.is_present.ensures ∙ c.if-not-is_present.false) a.entries.start a.entries.end r.i_bound.1 (grind (arith, nat_tests, r.i_bound.1.ordered, c.if-is_empty.ensures)) e.0 e.1)
 
 pub part_wire-requires : goal.part_wire-requires
 part_wire-requires c =
     let a = c.args in
     let r = c.requires in
     let here =
-    ready_here a.net a.limit a.i a.places.now.of_node a.places.now.end a.out.now
-    r.i_bound.0 (omega arith) r.records_fit r.held_below in
+    ready_here a.net a.limit a.i a.places.now a.at a.out.now
+    r.i_bound.0 r.nodes_in_bounds r.records_fit r.held_below in
     let o = r.i_bound.1 in
     let some : c.args.entries.start < c.args.entries.end = grind (arith, nat_tests, c.if-is_empty.ensures) in
     record {
@@ -91,14 +90,14 @@ part_wire-requires c =
       room = cut-room here (sym c.is_present.ensures ∙ c.if-not-is_present.false) a.entries.start a.entries.end o some;
     }
 
-pub returns-else-is_empty : goal.returns-else-is_empty
-returns-else-is_empty c =
+pub returns : goal.returns
+returns c =
     let a = c.args in
     let r = c.requires in
     let all =
-    ready a.net a.limit a.i a.places.now.of_node a.places.now.end a.out.now
-    r.i_bound.0 (omega arith) r.records_fit r.held_below in
+    ready a.net a.limit a.i a.places.now a.at a.out.now
+    r.i_bound.0 r.nodes_in_bounds r.records_fit r.held_below in
     let e = c.part_wire.ensures in
     let some : c.args.entries.start < c.args.entries.end = grind (arith, nat_tests, c.if-is_empty.ensures) in
     taken_wire (accepted_of a.net)
-    (λ v os j. taken_cut (all v os j) (sym c.is_present.ensures ∙ c.if-not-is_present.false) a.entries.start a.entries.end r.i_bound.1 some c.part_wire.new.places.end e.0 e.1 e.2)
+    (λ v os j. taken_cut (all v os j) (sym c.is_present.ensures ∙ c.if-not-is_present.false) a.entries.start a.entries.end r.i_bound.1 some c.part_wire.result e.0 e.1 e.2)

@@ -1,0 +1,63 @@
+-- `records::pass::take_wires` meets its contract.
+-- Assumes nothing.
+use Rattle.std.proofs.Common.{◌≡◌, refl, arith}
+use Rattle.net.specs.Net.{node_count}
+use Rattle.records.specs.Reached.{reached_none, reached_first, reached_wire, reached_next}
+use Rattle.records.specs.Taken.{taken_none, taken_rest, taken_all}
+use Rattle.records.specs.NetWithJumpers.{accepted_of}
+use Rattle.records.proofs.pass.take_wires.Goals as goal
+
+pub loop-i-init : goal.loop-i-init
+loop-i-init c =
+    let a = c.args in
+    record {
+      reached = reached_none a.net.jumpers.now;
+      held = taken_none a.net.nodes.now a.net.wires.now a.net.jumpers.now a.net.stage a.limit a.places.now a.out.now;
+      behind = refl;
+    }
+
+pub entries_end-end-requires : goal.entries_end-end-requires
+entries_end-end-requires c =
+    let a = c.args in
+    let r = c.loop-i.invariant.reached in
+    record {
+      e_bound = r.inside;
+      by_index = reached_first _ _ _ _ (accepted_of a.net) c.loop-i.i c.loop-i.e r;
+    }
+
+pub take_wire-at-requires : goal.take_wire-at-requires
+take_wire-at-requires c =
+    let a = c.args in
+    let v = c.loop-i.invariant in
+    let n = c.entries_end-end.ensures in
+    record {
+      i_bound = (
+        omega (arith, c.node_count-i-end.ensures),
+        reached_wire _ _ _ _ (accepted_of a.net) c.loop-i.i c.loop-i.e c.entries_end-end.result v.reached n.0 n.1 n.2 n.3,
+      );
+      nodes_in_bounds = omega (arith, c.requires.nodes_in_bounds);
+      records_fit = λ w os j. omega (arith, c.requires.records_fit w os j);
+      held_below = v.held;
+    }
+
+pub loop-i-preserved : goal.loop-i-preserved
+loop-i-preserved c =
+    let a = c.args in
+    let v = c.loop-i.invariant in
+    let n = c.entries_end-end.ensures in
+    let w = reached_wire _ _ _ _ (accepted_of a.net) c.loop-i.i c.loop-i.e c.entries_end-end.result v.reached n.0 n.1 n.2 n.3 in
+    let t = c.take_wire-at.ensures in
+    record {
+      reached = reached_next _ _ _ _ (accepted_of a.net) c.loop-i.i c.loop-i.e c.entries_end-end.result w;
+      held = t.0;
+      behind = taken_rest a.out.now (accepted_of a.net) v.held t.0 v.behind t.1;
+    }
+
+pub returns : goal.returns
+returns c =
+    λ version os j.
+    let a = c.args in
+    let v = c.loop-i.invariant in
+    let all : c.loop-i.i ≡ node_count a.net.nodes.now = omega (arith, c.node_count-i-end.ensures) in
+    taken_all version a.net.nodes.now a.net.wires.now a.net.jumpers.now os a.net.stage a.limit j c.loop-i.places c.loop-i.at c.loop-i.out a.out.now
+    (rw all at (v.held version os j)) v.behind
