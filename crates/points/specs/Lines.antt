@@ -1,11 +1,11 @@
 -- Laws of the points of a wire, on both axes, and of the search along its line.
 -- Assumes nothing.
 use Rattle.std.specs.Prelude.{ℕ, ◌<◌, ◌≤◌, ◌≡◌, ◌⊎◌, Bool, true, false, ◌&&◌, List, get_or, leb, ltb, Option, None, Some, MatchOption, is_some}
-use Rattle.std.proofs.Common.{refl, ne_eqb, sym, ◌∙◌, arith, ltb-true, ltb-false, leb-true, leb-false}
+use Rattle.std.proofs.Common.{sym, ◌∙◌, arith, ltb-true, ltb-false, leb-true, leb-false}
 use Rattle.laws.specs.Sum.{any}
 use Rattle.laws.specs.Sums.{by, and_left, and_right, and_intro, any-yes, any_none}
 use Rattle.net.specs.Layout.{newest}
-use Rattle.net.specs.Net.{node_x, node_y, wire_parent, wire_length, obstacle_x1, obstacle_y1, obstacle_x2, obstacle_y2, obstacle_layer, obstacle_count, wire_layer, holds, barred}
+use Rattle.net.specs.Net.{node_x, node_y, wire_parent, wire_length, obstacle_x1, obstacle_y1, obstacle_x2, obstacle_y2, obstacle_layer, obstacle_count, wire_layer, point_x, point_y, holds, barred}
 use Rattle.net.specs.declared.fields.Obstacle.{Obstacle}
 use Rattle.points.specs.Cuttable.{Checked, Highest, Lowest, LastBelow, FirstAbove}
 use Rattle.points.specs.Geometry.{heading, stepped, Reach, reach_less, last_below, first_above, between, axis_below, axis_above, both_below, both-above, reach-x, reach-y, point_x_is, point_y_is}
@@ -155,7 +155,12 @@ lowest_ap x end None e h = λ t l m. sym (e t) ∙ h t l m
 lowest_ap x end (Some r) e h =
     record { from = h.from; within = h.within; free = sym (e r) ∙ h.free; below = λ t l m. sym (e t) ∙ h.below t l m }
 
--- obstacles of every version but the first are read as those of the newest
-pub barred_newest : (v : ℕ) (ns ws os : List ℕ) (i t : ℕ) → (v ≡ 1 → ⊥) → barred newest ns ws os i t ≡ barred v ns ws os i t
-unfolding barred holds
-barred_newest v ns ws os i t h = rw (ne_eqb v 1 h) refl
+-- a point judged by one obstacle after another
+module _ (v : ℕ) (ns ws os : List ℕ) (i t : ℕ) {layer x y : ℕ} (el : layer ≡ wire_layer ws i) (ex : x ≡ point_x ns ws i t) (ey : y ≡ point_y ns ws i t) where
+  pub barred_yes : (k : ℕ) → k < obstacle_count v os → bars v os layer k x y ≡ true → true ≡ barred v ns ws os i t
+  unfolding barred
+  barred_yes k p b = sym (any-yes (obstacle_count v os) k (λ j. bars v os (wire_layer ws i) j (point_x ns ws i t) (point_y ns ws i t)) p (rw (el, ex, ey) at b))
+
+  pub barred_no : ((j : ℕ) → j < obstacle_count v os → bars v os layer j x y ≡ false) → false ≡ barred v ns ws os i t
+  unfolding barred
+  barred_no h = sym (any_none (obstacle_count v os) (λ j. bars v os (wire_layer ws i) j (point_x ns ws i t) (point_y ns ws i t)) (λ j p. rw (el, ex, ey) at (h j p)))

@@ -4,16 +4,18 @@
 ghost use Rattle.std.specs.Prelude.{◌≡◌, ◌&&◌, ◌<◌, ◌≤◌, false, leb, MatchOption};
 ghost use Rattle.net.specs.Layout.{newest};
 ghost use Rattle.net.specs.Limits.{length_bound};
-ghost use Rattle.net.specs.Net.{wire_length, point_x, point_y, barred};
+ghost use Rattle.net.specs.Net.{wire_length, point_x, point_y, obstacle_count, barred};
 ghost use Rattle.points.specs.Cuttable.{Checked, Highest, Lowest};
-ghost use Rattle.points.specs.Lines.{Reaches, covers, barred_at, BarredBy};
+ghost use Rattle.points.specs.Lines.{Reaches, covers, bars, barred_at, BarredBy};
 
 mod line;
 
 use crate::line::Line;
 pub use crate::line::Point;
-use net::fields::{Obstacle, node_at, obstacle_at, obstacle_count, wire_at};
-use net::layout::{FIRST_VERSION, NEWEST_VERSION};
+use net::fields::{
+    Obstacle, node_at, obstacle_at, obstacle_bytes, obstacle_count, u16_at, wire_at,
+};
+use net::layout::NEWEST_VERSION;
 
 // The length of wire i.
 pub fn length_of(nodes: &[u8], wires: &[u8], i: usize) -> u32
@@ -49,13 +51,27 @@ pub fn is_barred(
     if obstacles.is_empty() {
         return false;
     }
-    let line = Line::of_wire(nodes, wires, i);
-    // a search for each version, so that none asks for it at every obstacle
-    if version == FIRST_VERSION {
-        first_barring(FIRST_VERSION, obstacles, line, t).is_some()
-    } else {
-        first_barring(NEWEST_VERSION, obstacles, line, t).is_some()
+    let layer = wire_at(wires, i).layer;
+    let p = point_at(nodes, wires, i, t);
+    for k in 0..obstacle_count(version, obstacles) {
+        if bars_point(version, obstacles, layer, k, p) {
+            return true;
+        }
     }
+    false
+}
+
+// Obstacle k bars the point p to a wire of a layer. One coordinate is read after another, and not the whole obstacle: most are passed at their first.
+fn bars_point(version: u16, obstacles: &[u8], layer: u8, k: usize, p: Point) -> bool
+    requires { k < obstacle_count version obstacles.now }
+    ensures { result ≡ bars version obstacles.now layer k p.x p.y }
+{
+    let at = obstacle_bytes(version) * k;
+    u16_at(obstacles, at) <= p.x
+        && p.x <= u16_at(obstacles, at + 4)
+        && u16_at(obstacles, at + 2) <= p.y
+        && p.y <= u16_at(obstacles, at + 6)
+        && layer <= obstacle_at(version, obstacles, k).layer
 }
 
 // The highest position of wire i from 1 to x that is not barred.
