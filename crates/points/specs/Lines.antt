@@ -84,20 +84,19 @@ pub bars_is : {version : ℕ} {obstacles : List ℕ} {k : ℕ} {o : Obstacle} �
 bars_is e layer p = rw (covers_is e p, e.layer)
 
 -- o is one of the obstacles, and bars the point t steps on
-pub record BarredBy (version : ℕ) (obstacles : List ℕ) (line : Line) (t : ℕ) (o : Obstacle) : Type 0 where
+pub record BarredBy (obstacles : List ℕ) (line : Line) (t : ℕ) (o : Obstacle) : Type 0 where
   pub k : ℕ
-  pub inside : k < obstacle_count version obstacles
-  pub is : IsObstacle version obstacles k o
-  pub barring : bars version obstacles line.layer k (point_on line t).x (point_on line t).y ≡ true
+  pub inside : k < obstacle_count newest obstacles
+  pub is : IsObstacle newest obstacles k o
+  pub barring : bars newest obstacles line.layer k (point_on line t).x (point_on line t).y ≡ true
 
 -- some obstacle bars the point t steps on
-unfoldable pub barred_at : ℕ → List ℕ → Line → ℕ → Bool
-barred_at version obstacles line t =
-    any (obstacle_count version obstacles) (λ k. bars version obstacles line.layer k (point_on line t).x (point_on line t).y)
+unfoldable pub barred_at : List ℕ → Line → ℕ → Bool
+barred_at obstacles line t = any (obstacle_count newest obstacles) (λ k. bars newest obstacles line.layer k (point_on line t).x (point_on line t).y)
 
-pub barred_is : (version : ℕ) (nodes wires obstacles : List ℕ) (i t : ℕ) → barred_at version obstacles (line_of nodes wires i) t ≡ barred version nodes wires obstacles i t
+pub barred_is : (nodes wires obstacles : List ℕ) (i t : ℕ) → barred_at obstacles (line_of nodes wires i) t ≡ barred newest nodes wires obstacles i t
 unfolding barred_at barred
-barred_is version nodes wires obstacles i t = rw (point_x_is nodes wires i t, point_y_is nodes wires i t)
+barred_is nodes wires obstacles i t = rw (point_x_is nodes wires i t, point_y_is nodes wires i t)
 
 -- the first that passes a test tells whether any does
 pub first-none : (n r : ℕ) (f : ℕ → Bool) → ((j : ℕ) → j < r → f j ≡ false) → n ≤ r → any n f ≡ false
@@ -108,22 +107,22 @@ first_any n r f before found =
     by (ltb r n) (λ h. h ∙ sym (any-yes n r f (ltb-true r n h) (found (ltb-true r n h))))
     (λ h. h ∙ sym (first-none n r f before (ltb-false r n h)))
 
-pub first_barred : (version : ℕ) (obstacles : List ℕ) (line : Line) (t : ℕ) (r : Option Obstacle) →
-    MatchOption r (barred_at version obstacles line t ≡ false) (BarredBy version obstacles line t) → is_some r ≡ barred_at version obstacles line t
+pub first_barred : (obstacles : List ℕ) (line : Line) (t : ℕ) (r : Option Obstacle) →
+    MatchOption r (barred_at obstacles line t ≡ false) (BarredBy obstacles line t) → is_some r ≡ barred_at obstacles line t
 unfolding barred_at
-first_barred version obstacles line t None h = sym h
-first_barred version obstacles line t (Some o) h =
-    sym (any-yes (obstacle_count version obstacles) h.k (λ k. bars version obstacles line.layer k (point_on line t).x (point_on line t).y) h.inside h.barring)
+first_barred obstacles line t None h = sym h
+first_barred obstacles line t (Some o) h =
+    sym (any-yes (obstacle_count newest obstacles) h.k (λ k. bars newest obstacles line.layer k (point_on line t).x (point_on line t).y) h.inside h.barring)
 
 -- an obstacle that bars a position is left behind in one step
-module _ (obstacles : List ℕ) (line : Line) (t : ℕ) {o : Obstacle} (b : BarredBy newest obstacles line t o) where
+module _ (obstacles : List ℕ) (line : Line) (t : ℕ) {o : Obstacle} (b : BarredBy obstacles line t o) where
   -- it holds that position, and it bars every position that it holds
   held : covers o (point_on line t) ≡ true
   held =
       covers_is b.is (point_on line t)
       ∙ and_left (holds newest obstacles b.k (point_on line t).x (point_on line t).y) (leb line.layer (obstacle_layer newest obstacles b.k)) b.barring
 
-  bars-held : (s : ℕ) → covers o (point_on line s) ≡ true → barred_at newest obstacles line s ≡ true
+  bars-held : (s : ℕ) → covers o (point_on line s) ≡ true → barred_at obstacles line s ≡ true
   unfolding barred_at
   bars-held s g =
       any-yes (obstacle_count newest obstacles) b.k (λ k. bars newest obstacles line.layer k (point_on line s).x (point_on line s).y) b.inside
@@ -132,14 +131,14 @@ module _ (obstacles : List ℕ) (line : Line) (t : ℕ) {o : Obstacle} (b : Barr
 
   pub leap_down : {r last : ℕ} → 0 < t →
       LastBelow (λ t. covers o (point_on line t)) r →
-      ((s : ℕ) → t < s → s ≤ last → barred_at newest obstacles line s ≡ true) → (r < t) × ((s : ℕ) → r < s → s ≤ last → barred_at newest obstacles line s ≡ true)
+      ((s : ℕ) → t < s → s ≤ last → barred_at obstacles line s ≡ true) → (r < t) × ((s : ℕ) → r < s → s ≤ last → barred_at obstacles line s ≡ true)
   leap_down p below passed =
       let z = below t p held in
       (z.0, λ s l m. by (leb s t) (λ u. bars-held s (z.1 s l (leb-true s t u))) (λ u. passed s (leb-false s t u) m))
 
   pub leap_up : {r first end : ℕ} → t < end →
       FirstAbove (λ t. covers o (point_on line t)) end r →
-      ((s : ℕ) → first ≤ s → s < t → barred_at newest obstacles line s ≡ true) → (t < r) × ((s : ℕ) → first ≤ s → s < r → barred_at newest obstacles line s ≡ true)
+      ((s : ℕ) → first ≤ s → s < t → barred_at obstacles line s ≡ true) → (t < r) × ((s : ℕ) → first ≤ s → s < r → barred_at obstacles line s ≡ true)
   leap_up p above passed =
       let z = above t p held in
       (z.0, λ s l m. by (ltb s t) (λ u. passed s l (ltb-true s t u)) (λ u. bars-held s (z.1 s (ltb-false s t u) m)))

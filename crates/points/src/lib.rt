@@ -1,4 +1,6 @@
 // The points of a wire, and the obstacles that bar them. The search sees obstacles in the form of the newest version.
+// The public functions take the sections and a wire's number, and require that this wire is checked: a `Net`, whose obstacles are right too, would ask more of
+// their callers. `is_barred` answers for every version, which the C interface gives as a number. `k < obstacle_count ..` bounds a read in place.
 #![tactic(auto)]
 
 ghost use Rattle.std.specs.Prelude.{◌≡◌, ◌&&◌, ◌<◌, ◌≤◌, false, leb, MatchOption};
@@ -61,7 +63,9 @@ pub fn is_barred(
     false
 }
 
-// Obstacle k bars the point p to a wire of a layer. One coordinate is read after another, and not the whole obstacle: most are passed at their first.
+// Obstacle k bars the point p to a wire of a layer. One coordinate is read after another, since most obstacles are passed at their first; `bars` has the whole
+// obstacle, which the searches need where it bars. They are two by what was measured: a report of 8,000 jumpers under 256 obstacles took 1.52 of the time before
+// the design pass by whole obstacles, and takes 1.03 by coordinates (docs/DECISIONS.md).
 fn bars_point(version: u16, obstacles: &[u8], layer: u8, k: usize, p: Point) -> bool
     requires { k < obstacle_count version obstacles.now }
     ensures { result ≡ bars version obstacles.now layer k p.x p.y }
@@ -106,11 +110,11 @@ pub fn lowest_cuttable(
 // The search down a line. An obstacle that bars a position is left behind in one step, where a `for` would try its positions one by one.
 fn highest_free(obstacles: &[u8], line: Line, last: u32) -> Option<u32>
     requires { Reaches line last }
-    ensures { Highest (barred_at newest obstacles.now line) last result }
+    ensures { Highest (barred_at obstacles.now line) last result }
 {
     let mut t = last;
     while 0 < t {
-        match first_barring(NEWEST_VERSION, obstacles, line, t) {
+        match first_barring(obstacles, line, t) {
             Some(obstacle) => t = line.last_below(obstacle),
             None => return Some(t),
         }
@@ -118,14 +122,14 @@ fn highest_free(obstacles: &[u8], line: Line, last: u32) -> Option<u32>
     None
 }
 
-// The search up, for positions below `end`; with a direction as a parameter both searches would take each comparison twice.
+// The search up, for positions below `end`, by steps as down; with a direction as a parameter both searches would take each comparison twice.
 fn lowest_free(obstacles: &[u8], line: Line, first: u32, end: u32) -> Option<u32>
     requires { Reaches line end × (0 < first) }
-    ensures { Lowest (barred_at newest obstacles.now line) first end result }
+    ensures { Lowest (barred_at obstacles.now line) first end result }
 {
     let mut t = first;
     while t < end {
-        match first_barring(NEWEST_VERSION, obstacles, line, t) {
+        match first_barring(obstacles, line, t) {
             Some(obstacle) => t = line.first_above(obstacle, end),
             None => return Some(t),
         }
@@ -134,13 +138,13 @@ fn lowest_free(obstacles: &[u8], line: Line, first: u32, end: u32) -> Option<u32
 }
 
 // The first obstacle that bars position t of a line.
-fn first_barring(version: u16, obstacles: &[u8], line: Line, t: u32) -> Option<Obstacle>
+fn first_barring(obstacles: &[u8], line: Line, t: u32) -> Option<Obstacle>
     requires { Reaches line t }
-    ensures { MatchOption result (barred_at version obstacles.now line t ≡ false) (BarredBy version obstacles.now line t) }
+    ensures { MatchOption result (barred_at obstacles.now line t ≡ false) (BarredBy obstacles.now line t) }
 {
     let p = line.at(t);
-    for k in 0..obstacle_count(version, obstacles) {
-        let obstacle = obstacle_at(version, obstacles, k);
+    for k in 0..obstacle_count(NEWEST_VERSION, obstacles) {
+        let obstacle = obstacle_at(NEWEST_VERSION, obstacles, k);
         if bars(obstacle, line.layer, p) {
             return Some(obstacle);
         }

@@ -41,7 +41,7 @@ impl Axis {
         }
     }
 
-    // The coordinate t steps on.
+    // The coordinate t steps on. std has no `From` from u32 to i32 or back to u16; both casts are proved to fit, `try_from` would add a branch that gives up.
     pub(crate) fn at(self, t: u32) -> u16
         requires { Reach self.from self.step t }
         ensures { result ≡ stepped self.from self.step t }
@@ -49,7 +49,7 @@ impl Axis {
         (i32::from(self.from) + self.step * t as i32) as u16
     }
 
-    // The last position below those whose coordinate is one of low to high.
+    // The last position below those whose coordinate is one of low to high, the obstacle's sides on this axis: it has them as four numbers, no struct of two.
     pub(crate) fn last_below(self, low: u16, high: u16) -> u32
         ensures { result ≡ last_below self.from self.step low high }
     {

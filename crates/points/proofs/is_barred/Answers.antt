@@ -1,7 +1,6 @@
 -- `points::is_barred` meets its contract. Assumes nothing.
 use Rattle.std.proofs.Common.{◌≡◌, ◌∙◌, sym, length, eqb-true, arith}
 use native.Mathlib.Nat.{zero-div}
-use borrow.Author.Count.{below_more}
 use Rattle.laws.specs.Sum.{any}
 use Rattle.net.specs.Net.{barred}
 use Rattle.points.specs.Lines.{barred_yes, barred_no}
@@ -18,9 +17,6 @@ returns-then-bars_point c =
     let a = c.args in
     let p = c.point_at-p.ensures in
     barred_yes a.version a.nodes.now a.wires.now a.obstacles.now a.i a.t c.wire_at-layer.ensures.layer p.x p.y c.loop-k.k (omega arith) (sym c.bars_point.ensures ∙ c.if-bars_point.true)
-
-pub loop-k-preserved : goal.loop-k-preserved
-loop-k-preserved c = below_more _ _ c.loop-k.invariant (sym c.bars_point.ensures ∙ c.if-bars_point.false)
 
 pub returns : goal.returns
 returns c =
