@@ -1,4 +1,4 @@
-// Refusals 12 to 14 on a whole list, with the length of a wire computed once for its entries in a row.
+// Refusals 12 to 14 on a whole list, with the length of a wire computed once for its entries in a row. `check` has the same call by another method, entry by entry.
 ghost use Rattle.std.specs.Prelude.{◌≡◌, ◌<◌};
 ghost use Rattle.net.specs.Net.{wire_length};
 ghost use Rattle.net.specs.Numbers.{checked};
@@ -40,7 +40,9 @@ fn position_refusal(net: Net, i: usize, length: u32, t: u32, place: u64) -> Resu
 }
 
 // 12 on the length of a list, then each entry in order: 12, then 13 and 14 on its point. Of the entry before, `wire` is its wire, `from` the position behind it
-// and `length` the length of its wire, which is computed once for entries in a row on one wire.
+// and `length` the length of its wire, which is computed once for entries in a row on one wire. Where there is none before, the zeros are true of wire 0: node 0
+// has no wire, so its length is 0 and every position stands behind it. An `Option` of a struct of the three was tried and proved: the check of 65,000 entries on
+// one wire then took 1.10 to 1.67 of this, by where the code came to lie.
 pub fn list_refusal(net: Net, stage: u8, list: &[u8]) -> Result<(), Refusal>
     ensures { checked result ≡ list_refusal (stage_of_net net.entry stage) list.now }
 {

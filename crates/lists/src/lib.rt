@@ -1,7 +1,9 @@
 // Jumper lists: their entries, 12 to 14 on a list, 13 and 14 on one point, the entries of a wire.
 #![tactic(auto)]
 
-// by_wire and doubling find by another method what check and wire find; which stay is for the request on the report in one pass to say.
+// by_wire and doubling find by another method what check and wire find, not for another type, size or constant: each is public with the same promise, and one
+// function would have to hold both methods, no plainer. Which stay is for the request on the report in one pass to say.
+// `e < entry_count ..` bounds a read in place. Numbers of entries are made 64-bit numbers by `as`: std has no `From` between usize and u64.
 pub mod by_wire;
 pub mod check;
 pub mod doubling;
