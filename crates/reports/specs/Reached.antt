@@ -20,16 +20,17 @@ gathered_none ns ws list k p a b c v os j =
       layered = λ h. let x = c h in omega arith;
     }
 
--- in an array of entries of which nothing is gathered
-entries-none : (n h : ℕ) → get_or (replicate n nothing) h nothing ≡ nothing
-entries-none zero h = refl
-entries-none (suc n) zero = refl
-entries-none (suc n) (suc h) = entries-none n h
+-- in an array of copies of a piece that has no weight, no flags and no layers
+module _ (d : Piece) where
+  zero-at : (f : Piece → ℕ) → f d ≡ 0 → f nothing ≡ 0 → (n h : ℕ) → f (get_or (replicate n d) h nothing) ≡ 0
+  zero-at f a b zero h = b
+  zero-at f a b (suc n) zero = a
+  zero-at f a b (suc n) (suc h) = zero-at f a b n h
 
-pub none-gathered : (n : ℕ) → let p = replicate n nothing in AtMost 0 (weight p) × AtMost 0 (flags p) × AtMost 0 (layers p)
-none-gathered n =
-    let p = replicate n nothing in (
-      λ h. rw ((fields-at p h).1, entries-none n h) (omega arith),
-      λ h. rw ((fields-at p h).2, entries-none n h) (omega arith),
-      λ h. rw ((fields-at p h).3, entries-none n h) (omega arith),
-    )
+  pub none-gathered : (n : ℕ) → d.weight ≡ 0 → d.flags ≡ 0 → d.layers ≡ 0 → let p = replicate n d in AtMost 0 (weight p) × AtMost 0 (flags p) × AtMost 0 (layers p)
+  none-gathered n w f l =
+      let p = replicate n d in (
+        λ h. rw ((fields-at p h).1, zero-at (λ (q : Piece). q.weight) w refl n h) (omega arith),
+        λ h. rw ((fields-at p h).2, zero-at (λ (q : Piece). q.flags) f refl n h) (omega arith),
+        λ h. rw ((fields-at p h).3, zero-at (λ (q : Piece). q.layers) l refl n h) (omega arith),
+      )

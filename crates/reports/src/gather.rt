@@ -17,21 +17,13 @@ use records::NetWithJumpers;
 use records::wire::{layers_of, weight_of};
 
 // Of a node, the lowest node of its piece; of a lowest node, the weight, the flags and the layers of its piece.
-#[derive(Clone, Copy)]
+#[derive(Clone, Copy, Default)]
 pub struct Piece {
     pub lowest: usize,
     pub weight: u64,
     pub flags: u8,
     pub layers: u16,
 }
-
-// Before anything is gathered.
-pub const NO_PIECE: Piece = Piece {
-    lowest: 0,
-    weight: 0,
-    flags: 0,
-    layers: 0,
-};
 
 // Node i is in the piece whose lowest node is h: its flags are joined to that piece's.
 fn name_node(pieces: &mut [Piece], i: usize, h: usize, of_node: u8)

@@ -7,7 +7,7 @@ ghost use Rattle.records.specs.NetWithJumpers.{AtNet, RecordsFit};
 ghost use Rattle.reports.specs.Promise.{pieces_buffer, report_answer, report_buffer};
 
 use crate::count::piece_count;
-use crate::gather::{NO_PIECE, gather};
+use crate::gather::{Piece, gather};
 use crate::write::write_records;
 use lists::check::list_refusal;
 use net::Net;
@@ -89,7 +89,7 @@ pub fn write_pieces(net: NetWithJumpers, limit: u32, out: &mut [u8])
     requires { RecordsFit net limit out.old }
     ensures { AtNet net.entry (λ s. out.new ≡ pieces_buffer s limit net.entry.jumpers.now out.old) }
 {
-    let mut pieces = [NO_PIECE; MOST_NODES];
+    let mut pieces = [Piece::default(); MOST_NODES];
     gather(net, &mut pieces);
     write_records(net, limit, &pieces, out);
 }

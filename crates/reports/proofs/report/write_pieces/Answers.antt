@@ -11,9 +11,10 @@ use Rattle.reports.proofs.report.write_pieces.Goals as goal
 pub gather-requires : goal.gather-requires
 gather-requires c =
     let p = accepted_of c.args.net in
+    let none = c.default-pieces.ensures in
     record {
       roomy = p.2.right.sized.few_nodes;
-      at_most = none-gathered most_nodes;
+      at_most = none-gathered c.default-pieces.result most_nodes none.1.0 none.1.1.0 none.1.1.1;
     }
 
 pub write_records-requires : goal.write_records-requires
