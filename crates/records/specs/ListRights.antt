@@ -20,7 +20,7 @@ use Rattle.lists.specs.EntriesOfWire.{OfWire, positions-rise, position-inside, o
 use Rattle.records.specs.WireMore.{flags_bits}
 use Rattle.records.specs.ListRight.{ListRight, ListAccepted}
 use Rattle.records.specs.Record.{NodeRecord}
-use Rattle.records.specs.Wire.{WireReady, EntriesReady}
+use Rattle.records.specs.Wire.{WireAccepted, WireReady, EntriesReady}
 
 module _ (v : ℕ) (ns ws list os : List ℕ) (k : ℕ) (j : ListRight v ns ws k list os) where
   pub formed_of : Formed (stage_of v ns ws os k)
@@ -69,26 +69,18 @@ module _ (ns ws list : List ℕ) (k : ℕ) (accepted : ListAccepted ns ws k list
   node-small = omega (arith, accepted.2.right.sized.few_nodes)
 
   -- a wire that the stage has
-  pub wire_ready : {places out : List ℕ} → i < length places → get_or places (wire_parent ws i) 0 + record_bytes ≤ length out →
-      NodeRecord (drop (get_or places (wire_parent ws i) 0) out) → (ltb 0 i && leb (wire_layer ws i) k) ≡ true → WireReady ns ws i places out
-  wire_ready room above stands y =
+  pub wire_accepted : (ltb 0 i && leb (wire_layer ws i) k) ≡ true → WireAccepted ns ws i
+  wire_accepted y =
       let j = accepted.2 in
       let n = ltb-true 0 i (and_left (ltb 0 i) (leb (wire_layer ws i) k) y) in
       let r = j.right.wire i n h in
-      let f = j.right.flags i h in
-      record {
-        numbered = n;
-        small = node-small;
-        stored = stored_of;
-        checked = checked_of j.right i n h;
-        below = r.below;
-        low = r.layer_low;
-        high = r.layer_high;
-        flags = omega arith;
-        room = room;
-        above = above;
-        stands = stands;
-      }
+      record { small = node-small; checked = checked_of j.right i n h; below = r.below; low = r.layer_low; high = r.layer_high }
+
+  pub wire_ready : {places out : List ℕ} → i < length places → get_or places (wire_parent ws i) 0 + record_bytes ≤ length out →
+      NodeRecord (drop (get_or places (wire_parent ws i) 0) out) → (ltb 0 i && leb (wire_layer ws i) k) ≡ true → WireReady ns ws i places out
+  wire_ready room above stands y =
+      let f = accepted.2.right.flags i h in
+      record { wire = wire_accepted y; flags = omega arith; room = room; above = above; stands = stands }
 
   -- its entries
   pub entries_ready : (a b : ℕ) → OfWire list (entry_count list) i a b → a < b → EntriesReady ns ws list i a b

@@ -3,21 +3,23 @@
 use Rattle.std.specs.Prelude.{ℕ, ◌+◌, ◌-◌, ◌*◌, ◌^◌, ◌≤◌, ◌<◌, List, ◌++◌, length, get_or, drop, ltb}
 use Rattle.laws.specs.Sum.{χ}
 use Rattle.laws.specs.Place.{place}
-use Rattle.net.specs.Layout.{record_bytes, wire_bytes, most_nodes, most_layers}
+use Rattle.net.specs.Layout.{record_bytes, most_nodes, most_layers}
 use Rattle.net.specs.Net.{node_flags, wire_parent, wire_layer, wire_factor, wire_length}
 use Rattle.points.specs.Cuttable.{Checked}
 use Rattle.pieces.specs.Legal.{entry_position}
 use Rattle.pieces.specs.JumperList.{entry_count}
 use Rattle.records.specs.Record.{node_fields, NodeRecord, joined, stretches_fields}
 
-pub record WireReady (ns ws : List ℕ) (i : ℕ) (places out : List ℕ) : Type 0 where
-  pub numbered : 0 < i
+-- what an accepted net gives of wire i: it was checked, it hangs on a node below, and its layer is one of a net
+pub record WireAccepted (ns ws : List ℕ) (i : ℕ) : Type 0 where
   pub small : i < most_nodes
-  pub stored : wire_bytes * i ≤ length ws
   pub checked : Checked ns ws i
   pub below : wire_parent ws i < i
   pub low : 1 ≤ wire_layer ws i
   pub high : wire_layer ws i ≤ most_layers
+
+pub record WireReady (ns ws : List ℕ) (i : ℕ) (places out : List ℕ) : Type 0 where
+  pub wire : WireAccepted ns ws i
   pub flags : node_flags ns i < 4
   pub room : i < length places
   pub above : get_or places (wire_parent ws i) 0 + record_bytes ≤ length out

@@ -6,13 +6,11 @@ use Rattle.std.proofs.Common.{◌∙◌}
 use Rattle.std.proofs.Math.Bool.{true, false}
 use native.Mathlib.Omega.{arith}
 use borrow.Author.Tests.{lt-ltb, le-ltb, ltb-true, ltb-false}
-use Rattle.laws.specs.Sums.{by, no_both, and_left, χ-≤}
+use Rattle.laws.specs.Sums.{by, no_both, χ-≤}
 use Rattle.net.specs.Layout.{wire_bytes, most_nodes, most_layers}
 use Rattle.net.specs.Limits.{length_bound, factor_bound, wire_weight_bound}
 use Rattle.net.specs.Net.{node_count, node_flags, wire_parent, wire_layer}
 use Rattle.net.specs.Stage.{stage_of}
-use Rattle.points.specs.Cuttable.{Checked}
-use Rattle.points.specs.Geometry.{checked_of}
 use Rattle.pieces.specs.Name.{cut_at, lowest_node}
 use Rattle.pieces.specs.Lowest.{joins-yes, cut_apart, absent-apart, lowest_node-up, lowest_node-stop, lowest_node-≤}
 use Rattle.pieces.specs.Legal.{entry_position}
@@ -22,7 +20,8 @@ use Rattle.reports.specs.declared.gather.Piece.{Piece}
 use Rattle.reports.specs.Gathered.{lowest, weight, flags, layers, Gathered}
 use Rattle.reports.specs.Gathering.{Named, Added, Joined, Parted, gathered-absent, gathered-joined, gathered-cut}
 use Rattle.records.specs.ListRight.{ListRight, ListAccepted}
-use Rattle.records.specs.ListRights.{formed_of, inside_of, free_of, rising_of, range_of, present_is, flags_of, entries-cut, entries-present, stored_of, node-small, product_small}
+use Rattle.records.specs.Wire.{WireAccepted}
+use Rattle.records.specs.ListRights.{wire_accepted, formed_of, inside_of, free_of, rising_of, range_of, present_is, flags_of, entries-cut, entries-present, stored_of, node-small, product_small}
 use Rattle.reports.specs.ListRight.{GatheredBelow, AtMost}
 
 module _ (v : ℕ) (ns ws list os : List ℕ) (k : ℕ) (j : ListRight v ns ws k list os) where
@@ -79,13 +78,7 @@ module _ (v : ℕ) (ns ws list os : List ℕ) (k : ℕ) (j : ListRight v ns ws k
 
 -- ---- what adding wire i, which the stage has, may rely on
 pub record WireReady (ns ws : List ℕ) (i : ℕ) (p : List Piece) : Type 0 where
-  pub numbered : 0 < i
-  pub small : i < most_nodes
-  pub stored : wire_bytes * i ≤ length ws
-  pub checked : Checked ns ws i
-  pub below : wire_parent ws i < i
-  pub low : 1 ≤ wire_layer ws i
-  pub high : wire_layer ws i ≤ most_layers
+  pub wire : WireAccepted ns ws i
   pub above : get_or (lowest p) (wire_parent ws i) 0 < i
   pub room : i < length p
   pub light : AtMost (i * (2 * wire_weight_bound)) (weight p)
@@ -104,20 +97,9 @@ module _ (ns ws list : List ℕ) (k : ℕ) (accepted : ListAccepted ns ws k list
   pub wire_ready : {p : List Piece} → node_count ns ≤ length p → AtMost (i * (2 * wire_weight_bound)) (weight p) → GatheredBelow ns ws k list i p →
       (ltb 0 i && leb (wire_layer ws i) k) ≡ true → WireReady ns ws i p
   wire_ready room light g y =
-      let v = accepted.0 in
-      let os = accepted.1 in
-      let j = accepted.2 in
-      let n = ltb-true 0 i (and_left (ltb 0 i) (leb (wire_layer ws i) k) y) in
-      let r = j.right.wire i n h in
       record {
-        numbered = n;
-        small = node-small ns ws list k accepted i h;
-        stored = stored_of ns ws list k accepted i h;
-        checked = checked_of j.right i n h;
-        below = r.below;
-        low = r.layer_low;
-        high = r.layer_high;
-        above = above-inside v ns ws list os k j i h (g v os j) y;
+        wire = wire_accepted ns ws list k accepted i h y;
+        above = above-inside accepted.0 ns ws list accepted.1 k accepted.2 i h (g accepted.0 accepted.1 accepted.2) y;
         room = omega arith;
         light = light;
       }

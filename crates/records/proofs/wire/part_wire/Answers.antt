@@ -62,7 +62,7 @@ start_piece-behind-requires c =
     c.wire_at-wire.ensures.parent c.length_of.ensures.0 c.entry_position-last.ensures (rw c.wire_at-wire.ensures.factor at c.weight_of-end_weight.ensures.0) mask c.join_record.ensures in
     let long = ap length buffer ∙ joined_above_length a.limit _ _ _ _ a.out.now c.requires.wire_ready.above in
     let r = c.requires.wire_ready in
-    (r.small, r.room, omega (arith, c.node_at.ensures.flags, r.flags), omega (arith, long, c.requires.entries_ready.some, c.requires.room))
+    (r.wire.small, r.room, omega (arith, c.node_at.ensures.flags, r.flags), omega (arith, long, c.requires.entries_ready.some, c.requires.room))
 
 pub write_stretches-requires : goal.write_stretches-requires
 write_stretches-requires c =
@@ -75,7 +75,7 @@ write_stretches-requires c =
     let r = c.requires.wire_ready in
     let t = c.requires.entries_ready in
     record {
-      i_lt_most_nodes = (r.small, omega (arith, t.some), t.inside, omega (arith, c.wire_at-wire.ensures.layer, r.low), omega (arith, c.wire_at-wire.ensures.layer, r.high));
+      i_lt_most_nodes = (r.wire.small, omega (arith, t.some), t.inside, omega (arith, c.wire_at-wire.ensures.layer, r.wire.low), omega (arith, c.wire_at-wire.ensures.layer, r.wire.high));
       by_index = t.rise;
       room = omega (arith, t.some, c.requires.room, c.start_piece-behind.ensures.0, c.start_piece-behind.auto.out, long);
     }

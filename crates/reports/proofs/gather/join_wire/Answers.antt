@@ -23,8 +23,8 @@ add_steps-requires c =
     let kept = ap (λ l. get_or l (get_or (lowest a.pieces.now) (wire_parent a.net.wires.now a.i) 0) 0) c.name_node.ensures.kept.0 in
     record {
       h_in_bounds = omega arith;
-      le_layer = (omega (arith, c.wire_at-wire.ensures.layer, c.requires.low), omega (arith, c.wire_at-wire.ensures.layer, c.requires.high));
-      steps_in_bounds = (len.ensures.1, rw above (omega (arith, c.requires.small)));
+      le_layer = (omega (arith, c.wire_at-wire.ensures.layer, c.requires.wire.low), omega (arith, c.wire_at-wire.ensures.layer, c.requires.wire.high));
+      steps_in_bounds = (len.ensures.1, rw above (omega (arith, c.requires.wire.small)));
     }
 
 pub returns : goal.returns

@@ -22,8 +22,8 @@ add_steps-requires c =
     let kept = ap (λ l. get_or l c.args.i 0) c.name_node.ensures.kept.0 in
     record {
       h_in_bounds = omega arith;
-      le_layer = (omega (arith, c.wire_at-wire.ensures.layer, r.low), omega (arith, c.wire_at-wire.ensures.layer, r.high));
-      steps_in_bounds = (omega (arith, c.requires.first_bound.0, len.ensures.0, len.ensures.1), omega (arith, r.small));
+      le_layer = (omega (arith, c.wire_at-wire.ensures.layer, r.wire.low), omega (arith, c.wire_at-wire.ensures.layer, r.wire.high));
+      steps_in_bounds = (omega (arith, c.requires.first_bound.0, len.ensures.0, len.ensures.1), omega (arith, r.wire.small));
     }
 
 pub overflow_sub-len : goal.overflow_sub-len
@@ -42,8 +42,8 @@ add_steps-requires-2 c =
     let most = between (get_or (lowest a.pieces.now) (wire_parent a.net.wires.now a.i) 0) in
     record {
       h_in_bounds = rw above (omega (arith, r.above, r.room));
-      le_layer = (omega (arith, c.wire_at-wire.ensures.layer, r.low), omega (arith, c.wire_at-wire.ensures.layer, r.high));
-      steps_in_bounds = (omega (arith, len.ensures.1), rw above (omega (arith, r.small)));
+      le_layer = (omega (arith, c.wire_at-wire.ensures.layer, r.wire.low), omega (arith, c.wire_at-wire.ensures.layer, r.wire.high));
+      steps_in_bounds = (omega (arith, len.ensures.1), rw above (omega (arith, r.wire.small)));
     }
 
 pub returns : goal.returns
