@@ -16,29 +16,14 @@ loop-i-init c =
       behind = refl;
     }
 
-pub entries_end-end-requires : goal.entries_end-end-requires
-entries_end-end-requires c =
-    let a = c.args in
-    let r = c.loop-i.invariant.reached in
-    record {
-      e_bound = r.inside;
-      by_index = reached_first _ _ _ _ (accepted_of a.net) c.loop-i.i c.loop-i.e r;
-    }
+pub entries_end-end-requires-clause-by_index : goal.entries_end-end-requires-clause-by_index
+entries_end-end-requires-clause-by_index c = reached_first _ _ _ _ (accepted_of c.args.net) c.loop-i.i c.loop-i.e c.loop-i.invariant.reached
 
-pub take_wire-at-requires : goal.take_wire-at-requires
-take_wire-at-requires c =
-    let a = c.args in
-    let v = c.loop-i.invariant in
+pub take_wire-at-requires-clause-i_bound : goal.take_wire-at-requires-clause-i_bound
+take_wire-at-requires-clause-i_bound c =
     let n = c.entries_end-end.ensures in
-    record {
-      i_bound = (
-        omega (arith, c.node_count-i-end.ensures),
-        reached_wire _ _ _ _ (accepted_of a.net) c.loop-i.i c.loop-i.e c.entries_end-end.result v.reached n.0 n.1 n.2 n.3,
-      );
-      nodes_in_bounds = omega (arith, c.requires.nodes_in_bounds);
-      records_fit = λ w os j. omega (arith, c.requires.records_fit w os j);
-      held_below = v.held;
-    }
+    let w = reached_wire _ _ _ _ (accepted_of c.args.net) c.loop-i.i c.loop-i.e c.entries_end-end.result c.loop-i.invariant.reached n.0 n.1 n.2 n.3 in
+    (omega (arith, c.node_count-i-end.ensures), w)
 
 pub loop-i-preserved : goal.loop-i-preserved
 loop-i-preserved c =

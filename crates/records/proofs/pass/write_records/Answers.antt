@@ -3,8 +3,5 @@
 use Rattle.records.specs.NetWithJumpers.{accepted_of}
 use Rattle.records.proofs.pass.write_records.Goals as goal
 
-pub take_wires-requires : goal.take_wires-requires
-take_wires-requires c = record { nodes_in_bounds = (accepted_of c.args.net).2.right.sized.few_nodes; records_fit = c.requires }
-
-pub returns : goal.returns
-returns c = c.take_wires.ensures
+pub take_wires-requires-clause-nodes_in_bounds : goal.take_wires-requires-clause-nodes_in_bounds
+take_wires-requires-clause-nodes_in_bounds c = (accepted_of c.args.net).2.right.sized.few_nodes

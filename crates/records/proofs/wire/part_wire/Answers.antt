@@ -5,13 +5,13 @@ use mathlib.Core.Path.{◌≡◌, refl, ◌∙◌, ap}
 use mathlib.Core.List.{List, ◌++◌}
 use native.Mathlib.Omega.{arith}
 use lib.ListN.{length, take, drop, get_or}
-use Rattle.laws.specs.Place.{place, place-more, part-long}
+use Rattle.laws.specs.Place.{place, place-more}
 use Rattle.net.specs.Layout.{record_bytes}
 use Rattle.net.specs.Net.{node_flags, wire_parent, wire_layer, wire_factor, wire_length}
 use Rattle.pieces.specs.Legal.{entry_position}
 use Rattle.records.specs.Record.{with_harm, node_fields, stretches_fields, joined}
 use Rattle.records.specs.Wire.{joined_above}
-use Rattle.records.specs.RecordBytes.{fields-length, part_record, placed-joined, same_place, room_there, joined_above_length}
+use Rattle.records.specs.RecordBytes.{fields-length, placed-joined, same_place, joined_above_length}
 use Rattle.records.specs.Stretches.{stretches-length}
 use Rattle.records.proofs.wire.part_wire.Goals as goal
 
@@ -36,49 +36,6 @@ above-joined : (limit : ℕ) (ns ws list places : List ℕ) (i end : ℕ) (out x
 above-joined limit ns ws list places i end out x {p} {n} {t} {w} {m} pe ne te we me e =
     let weight : w ≡ (wire_length ns ws i - entry_position list (end - 1)) * wire_factor ws i = we ∙ rw (ne, te) in
     placed-joined limit (get_or places p 0) w 0 m _ _ _ _ out x (same_place places pe) weight refl me e
-
-pub slice_bounds-join_record-count : goal.slice_bounds-join_record-count
-slice_bounds-join_record-count c = omega (arith, room_there c.args.places.now c.args.out.now c.wire_at-wire.ensures.parent c.requires.wire_ready.above)
-
-pub slice_bounds-join_record-start : goal.slice_bounds-join_record-start
-slice_bounds-join_record-start c = omega (arith, room_there c.args.places.now c.args.out.now c.wire_at-wire.ensures.parent c.requires.wire_ready.above)
-
-pub join_record-requires : goal.join_record-requires
-join_record-requires c =
-    let a = c.args in
-    let above = get_or a.places.now c.wire_at-wire.result.parent 0 in (
-      part-long above record_bytes a.out.now (room_there a.places.now a.out.now c.wire_at-wire.ensures.parent c.requires.wire_ready.above),
-      part_record above _ a.out.now (same_place a.places.now c.wire_at-wire.ensures.parent) c.requires.wire_ready.stands,
-      c.weight_of-end_weight.ensures.1 (omega (arith, c.length_of.ensures.1)),
-      omega arith,
-    )
-
-pub start_piece-behind-requires : goal.start_piece-behind-requires
-start_piece-behind-requires c =
-    let a = c.args in
-    let mask = rw c.wire_at-wire.ensures.layer at c.mask_of-mask.ensures in
-    let buffer =
-    above-joined a.limit a.net.nodes.now a.net.wires.now a.net.jumpers.now a.places.now a.i a.entries.end a.out.now c.join_record.new.rest
-    c.wire_at-wire.ensures.parent c.length_of.ensures.0 c.entry_position-last.ensures (rw c.wire_at-wire.ensures.factor at c.weight_of-end_weight.ensures.0) mask c.join_record.ensures in
-    let long = ap length buffer ∙ joined_above_length a.limit _ _ _ _ a.out.now c.requires.wire_ready.above in
-    let r = c.requires.wire_ready in
-    (r.wire.small, r.room, omega (arith, c.node_at.ensures.flags, r.flags), omega (arith, long, c.requires.entries_ready.some, c.requires.room))
-
-pub write_stretches-requires : goal.write_stretches-requires
-write_stretches-requires c =
-    let a = c.args in
-    let mask = rw c.wire_at-wire.ensures.layer at c.mask_of-mask.ensures in
-    let buffer =
-    above-joined a.limit a.net.nodes.now a.net.wires.now a.net.jumpers.now a.places.now a.i a.entries.end a.out.now c.join_record.new.rest
-    c.wire_at-wire.ensures.parent c.length_of.ensures.0 c.entry_position-last.ensures (rw c.wire_at-wire.ensures.factor at c.weight_of-end_weight.ensures.0) mask c.join_record.ensures in
-    let long = ap length buffer ∙ joined_above_length a.limit _ _ _ _ a.out.now c.requires.wire_ready.above in
-    let r = c.requires.wire_ready in
-    let t = c.requires.entries_ready in
-    record {
-      i_lt_most_nodes = (r.wire.small, omega (arith, t.some), t.inside, omega (arith, c.wire_at-wire.ensures.layer, r.wire.low), omega (arith, c.wire_at-wire.ensures.layer, r.wire.high));
-      by_index = t.rise;
-      room = omega (arith, t.some, c.requires.room, c.start_piece-behind.ensures.0, c.start_piece-behind.auto.out, long);
-    }
 
 pub returns : goal.returns
 returns c =

@@ -1,7 +1,7 @@
 -- `records::wire::write_stretches` meets its contract.
 -- Assumes nothing.
 use Rattle.std.proofs.Common.{ℕ, ◌+◌, ◌-◌, ◌≤◌, ◌≡◌, refl, ◌∙◌, ap, sym, length, arith}
-use Rattle.laws.specs.Place.{place_none, place-length, part-long}
+use Rattle.laws.specs.Place.{place_none, place-length}
 use Rattle.net.specs.Layout.{record_bytes}
 use Rattle.pieces.specs.Legal.{entry_position}
 use Rattle.records.specs.Record.{stretches_fields}
@@ -19,18 +19,6 @@ loop-d-init c =
       written = rw (z, stretches-none a.jumpers.now a.i a.wire.factor a.wire.layer e) (place_none {A = ℕ} a.at a.out.now);
       long = refl;
     }
-
-pub slice_bounds-write-count : goal.slice_bounds-write-count
-slice_bounds-write-count c = omega arith
-
-pub slice_bounds-write-start : goal.slice_bounds-write-start
-slice_bounds-write-start c = omega arith
-
-pub write-requires : goal.write-requires
-write-requires c = part-long c.loop-d.next record_bytes c.loop-d.out (omega arith)
-
-pub overflow_add-next : goal.overflow_add-next
-overflow_add-next c = record { fits = omega arith }
 
 pub loop-d-preserved : goal.loop-d-preserved
 loop-d-preserved c =
@@ -56,13 +44,3 @@ loop-d-preserved c =
       written = rw behind written;
       long = ap length written ∙ place-length a.at (stretches_fields a.jumpers.now a.i a.wire.factor a.wire.layer e (d + 1 - e)) a.out.now (omega arith);
     }
-
-pub shape_of-out : goal.shape_of-out
-shape_of-out c = c.loop-d.invariant.long
-
-pub returns : goal.returns
-returns c =
-    let e = c.args.entries.start in
-    let v = c.loop-d.invariant in
-    let all : c.loop-d.d - e - 1 ≡ c.args.entries.end - e - 1 = omega arith in
-    (omega arith, rw all at v.written)
