@@ -14,9 +14,6 @@ use Rattle.reports.proofs.gather.gather_wire.Goals as goal
 parted-at : {ns ws : List ℕ} {i first last a b : ℕ} {p q : List Piece} → first ≡ a → last ≡ b → Parted ns ws i first last p q → Parted ns ws i a b p q
 parted-at e d p = rw (e, d) at p
 
-pub entries_end-end-requires : goal.entries_end-end-requires
-entries_end-end-requires c = c.requires.i_bound.1.inside
-
 pub is_present-requires : goal.is_present-requires
 is_present-requires c =
     stored_of _ _ _ _ (accepted_of c.args.net) c.args.i c.requires.i_bound.0
@@ -51,30 +48,6 @@ returns-then-e-end c =
           step-joined v a.net.nodes.now a.net.wires.now a.net.jumpers.now os a.net.stage j a.i c.requires.i_bound.0 (c.requires.gathered_below v os j)
           (sym c.is_present.ensures ∙ c.if-not-is_present.false) a.e c.entries_end-end.result w c.if-e-end.true c.join_wire.ensures.0,
     )
-
-pub entry_position-first-requires : goal.entry_position-first-requires
-entry_position-first-requires c =
-    let a = c.args in
-    let n = c.entries_end-end.ensures in
-    let w = reached_wire _ _ _ _ (accepted_of c.args.net) a.i a.e c.entries_end-end.result c.requires.i_bound.1 n.0 n.1 n.2 n.3 in
-    let some : c.args.e < c.entries_end-end.result = omega (arith, w.ordered, c.if-e-end.false) in
-    omega (arith, some, w.inside)
-
-pub overflow_sub-end : goal.overflow_sub-end
-overflow_sub-end c =
-    let a = c.args in
-    let n = c.entries_end-end.ensures in
-    let w = reached_wire _ _ _ _ (accepted_of c.args.net) a.i a.e c.entries_end-end.result c.requires.i_bound.1 n.0 n.1 n.2 n.3 in
-    let some : c.args.e < c.entries_end-end.result = omega (arith, w.ordered, c.if-e-end.false) in
-    omega (arith, some)
-
-pub entry_position-last-requires : goal.entry_position-last-requires
-entry_position-last-requires c =
-    let a = c.args in
-    let n = c.entries_end-end.ensures in
-    let w = reached_wire _ _ _ _ (accepted_of c.args.net) a.i a.e c.entries_end-end.result c.requires.i_bound.1 n.0 n.1 n.2 n.3 in
-    let some : c.args.e < c.entries_end-end.result = omega (arith, w.ordered, c.if-e-end.false) in
-    omega (arith, some, w.inside)
 
 pub part_wire-requires : goal.part_wire-requires
 part_wire-requires c =

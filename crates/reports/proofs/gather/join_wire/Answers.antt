@@ -1,31 +1,11 @@
 -- `reports::gather::join_wire` meets its contract.
 -- Assumes nothing.
-use Rattle.std.proofs.Common.{◌+◌, ◌*◌, ap, get_or, arith}
+use Rattle.std.proofs.Common.{◌+◌, ◌*◌, arith}
 use Rattle.net.specs.Limits.{wire_weight_bound}
-use Rattle.net.specs.Net.{wire_parent}
-use Rattle.reports.specs.Gathered.{lowest, weight}
+use Rattle.reports.specs.Gathered.{weight}
 use Rattle.reports.specs.Gathering.{lowest-at}
 use Rattle.reports.specs.ListRights.{added-small, at_more}
 use Rattle.reports.proofs.gather.join_wire.Goals as goal
-
-pub name_node-requires : goal.name_node-requires
-name_node-requires c =
-    let above = lowest-at c.args.pieces.now c.wire_at-wire.ensures.parent in
-    let r = c.requires in
-    (omega arith, omega arith)
-
-pub add_steps-requires : goal.add_steps-requires
-add_steps-requires c =
-    let a = c.args in
-    let above = lowest-at a.pieces.now c.wire_at-wire.ensures.parent in
-    let len = c.length_of-len in
-    let most = c.requires.light (get_or (lowest a.pieces.now) (wire_parent a.net.wires.now a.i) 0) in
-    let kept = ap (λ l. get_or l (get_or (lowest a.pieces.now) (wire_parent a.net.wires.now a.i) 0) 0) c.name_node.ensures.kept.0 in
-    record {
-      h_in_bounds = omega arith;
-      le_layer = (omega (arith, c.wire_at-wire.ensures.layer, c.requires.wire.low), omega (arith, c.wire_at-wire.ensures.layer, c.requires.wire.high));
-      steps_in_bounds = (len.ensures.1, rw above (omega (arith, c.requires.wire.small)));
-    }
 
 pub returns : goal.returns
 returns c =

@@ -17,14 +17,8 @@ gather-requires c =
       at_most = none-gathered c.default-pieces.result most_nodes none.1.0 none.1.1.0 none.1.1.1;
     }
 
-pub write_records-requires : goal.write_records-requires
-write_records-requires c =
-    let few = (accepted_of c.args.net).2.right.sized.few_nodes in
-    record {
-      roomy = omega arith;
-      gathered_below = c.gather.ensures;
-      records_fit = c.requires;
-    }
+pub write_records-requires-clause-roomy : goal.write_records-requires-clause-roomy
+write_records-requires-clause-roomy c = let few = (accepted_of c.args.net).2.right.sized.few_nodes in omega arith
 
 pub returns : goal.returns
 returns c =

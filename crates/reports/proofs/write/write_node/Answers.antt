@@ -6,7 +6,7 @@ use Rattle.laws.specs.Place.{place_none, part-long}
 use Rattle.net.specs.Layout.{record_bytes}
 use Rattle.records.specs.Record.{with_harm}
 use Rattle.records.specs.RecordBytes.{placed_record, fields-length}
-use Rattle.reports.specs.Gathering.{nothing, fields-at}
+use Rattle.reports.specs.Gathering.{nothing}
 use Rattle.reports.specs.Writing.{node_fields_no, node_fields_yes}
 use Rattle.reports.proofs.write.write_node.Goals as goal
 
@@ -15,9 +15,6 @@ returns-then-piece-i c =
     let a = c.args in
     let e = node_fields_no a.limit a.pieces.now a.i c.if-piece-i.true in
     (rw e (sym (add-zero a.at)), rw e (place_none a.at a.out.now))
-
-pub of_piece-requires : goal.of_piece-requires
-of_piece-requires c = let at = fields-at c.args.pieces.now c.args.i in (c.requires.i_lt_most_nodes.0, omega (arith, at.2))
 
 pub write-requires : goal.write-requires
 write-requires c =

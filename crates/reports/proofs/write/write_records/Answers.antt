@@ -22,9 +22,6 @@ loop-i-init c = record {
       (ap length e, rw (← e) (place_none {A = ℕ} 0 c.args.out.now));
 }
 
-pub entries_end-end-requires : goal.entries_end-end-requires
-entries_end-end-requires c = c.loop-i.invariant.reached.inside
-
 pub write_node-behind-requires : goal.write_node-behind-requires
 write_node-behind-requires c =
     let a = c.args in
