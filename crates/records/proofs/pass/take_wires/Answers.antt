@@ -5,6 +5,9 @@ use Rattle.net.specs.Net.{node_count}
 use Rattle.records.specs.Reached.{reached_none, reached_first, reached_wire, reached_next}
 use Rattle.records.specs.Taken.{taken_none, taken_rest, taken_all}
 use Rattle.records.specs.NetWithJumpers.{accepted_of}
+use Rattle.pieces.specs.JumperList.{entry_count}
+use Rattle.lists.specs.EntriesOfWire.{OfWire}
+use Rattle.records.proofs.pass.take_wires.Goals.{After-entries_end-end}
 use Rattle.records.proofs.pass.take_wires.Goals as goal
 
 pub loop-i-init : goal.loop-i-init
@@ -16,21 +19,23 @@ loop-i-init c =
       behind = refl;
     }
 
+-- the entries of wire i
+of_wire : (c : After-entries_end-end) → OfWire c.args.net.jumpers.now (entry_count c.args.net.jumpers.now) c.loop-i.i c.loop-i.e c.entries_end-end.result
+of_wire c =
+    let n = c.entries_end-end.ensures in
+    reached_wire _ _ _ _ (accepted_of c.args.net) c.loop-i.i c.loop-i.e c.entries_end-end.result c.loop-i.invariant.reached n.0 n.1 n.2 n.3
+
 pub entries_end-end-requires-clause-by_index : goal.entries_end-end-requires-clause-by_index
 entries_end-end-requires-clause-by_index c = reached_first _ _ _ _ (accepted_of c.args.net) c.loop-i.i c.loop-i.e c.loop-i.invariant.reached
 
 pub take_wire-at-requires-clause-i_bound : goal.take_wire-at-requires-clause-i_bound
-take_wire-at-requires-clause-i_bound c =
-    let n = c.entries_end-end.ensures in
-    let w = reached_wire _ _ _ _ (accepted_of c.args.net) c.loop-i.i c.loop-i.e c.entries_end-end.result c.loop-i.invariant.reached n.0 n.1 n.2 n.3 in
-    (omega (arith, c.node_count-i-end.ensures), w)
+take_wire-at-requires-clause-i_bound c = (omega (arith, c.node_count-i-end.ensures), of_wire (goal.at.take_wire-at-requires-clause-i_bound c).After-entries_end-end)
 
 pub loop-i-preserved : goal.loop-i-preserved
 loop-i-preserved c =
     let a = c.args in
     let v = c.loop-i.invariant in
-    let n = c.entries_end-end.ensures in
-    let w = reached_wire _ _ _ _ (accepted_of a.net) c.loop-i.i c.loop-i.e c.entries_end-end.result v.reached n.0 n.1 n.2 n.3 in
+    let w = of_wire (goal.at.loop-i-preserved c).After-entries_end-end in
     let t = c.take_wire-at.ensures in
     record {
       reached = reached_next _ _ _ _ (accepted_of a.net) c.loop-i.i c.loop-i.e c.entries_end-end.result w;

@@ -6,7 +6,7 @@ use Rattle.net.specs.declared.refusal.Refusal.TheVariants.{LentBuffer}
 use Rattle.net.specs.Layout.{record_bytes}
 use Rattle.net.specs.Stage.{Stage, stage_of}
 use Rattle.net.specs.File.{version_of}
-use Rattle.net.specs.Refusal.{Verdict, met, answer, obstacles_of}
+use Rattle.net.specs.Refusal.{Verdict, met, answer, nodes_of, wires_of, obstacles_of}
 use Rattle.net.specs.Call.{net_at}
 use Rattle.net.specs.Calls.{call_stage}
 use Rattle.net.specs.Answered.{met_refusal, answered_err, answered_ok}
@@ -15,6 +15,9 @@ use Rattle.laws.specs.Numbers.{Bytes}
 use Rattle.records.specs.NoObstacles.{accepted_without}
 use Rattle.reports.specs.FromFile.{section-bytes, list_at, right_here, right_of, stage-of, counted}
 use Rattle.reports.specs.Reporting.{report_fits, call_refused_answer, call_refused_buffer, list_refused_answer, list_refused_buffer, short-answer, short-buffer, done-answer, done-buffer}
+use Rattle.records.specs.ListRight.{ListRight}
+use Rattle.reports.proofs.report.report_by.Given.{Over}
+use Rattle.reports.proofs.report.report_by.Goals.{In_ok-check}
 use Rattle.reports.proofs.report.report_by.Goals as goal
 
 pub returns-in_err-net : goal.returns-in_err-net
@@ -46,18 +49,24 @@ returns-in_err-check g c =
       list_refused_buffer a.stage a.file.now a.jumpers.now a.limit a.out.now u m,
     )
 
+-- the net is accepted, and the list for it
+right : (g : Over) (c : In_ok-check g) →
+    let file = c.args.file.now in ListRight (version_of file) (nodes_of file) (wires_of file) c.args.stage c.args.jumpers.now (obstacles_of file)
+right g c =
+    let a = c.args in
+    let n = c.in_ok-net.ensures.net in
+    let zero = ap (λ (v : Verdict). v.number) (sym c.in_ok-net.ensures.verdict) in
+    right_here a.stage a.file.now a.jumpers.now zero (list_at a.stage a.file.now a.jumpers.now n.1 n.2 n.0 n.3 c.in_ok-check.ensures) refl
+
 pub invariant_of-with_jumpers : goal.invariant_of-with_jumpers
 invariant_of-with_jumpers g c =
     let a = c.args in
     let n = c.in_ok-net.ensures.net in
-    let zero = ap (λ (v : Verdict). v.number) (sym c.in_ok-net.ensures.verdict) in
-    let e = list_at a.stage a.file.now a.jumpers.now n.1 n.2 n.0 n.3 c.in_ok-check.ensures in
-    let right = right_here a.stage a.file.now a.jumpers.now zero e refl in
     let v = version_of a.file.now in
     let os = obstacles_of a.file.now in
     let file : Bytes a.file.now = λ i. omega (arith, c.type_inv.file i) in
     record {
-      accepted = accepted_without (v, os, right_of n.1 n.2 v os a.stage right);
+      accepted = accepted_without (v, os, right_of n.1 n.2 v os a.stage (right g (goal.at.invariant_of-with_jumpers g c).In_ok-check));
       bytes = (rw n.1 (section-bytes a.file.now file 0), rw n.2 (section-bytes a.file.now file 1));
     }
 
@@ -66,13 +75,11 @@ returns-then-out-needed g c =
     let a = c.args in
     let n = c.in_ok-net.ensures.net in
     let u = sym (ap met c.in_ok-net.ensures.verdict) in
-    let zero = ap (λ (v : Verdict). v.number) (sym c.in_ok-net.ensures.verdict) in
-    let e = list_at a.stage a.file.now a.jumpers.now n.1 n.2 n.0 n.3 c.in_ok-check.ensures in
-    let right = right_here a.stage a.file.now a.jumpers.now zero e refl in
-    let records = counted n.1 n.2 (version_of a.file.now) (obstacles_of a.file.now) a.stage c.piece_count-records.ensures.0 right in
+    let r = right g (goal.at.returns-then-out-needed g c).In_ok-check in
+    let records = counted n.1 n.2 (version_of a.file.now) (obstacles_of a.file.now) a.stage c.piece_count-records.ensures.0 r in
     let less : length a.out.now < record_bytes * piece_count (net_at a.file.now a.stage) a.jumpers.now = omega (arith, c.if-out-needed.true) in (
-      answered_err (LentBuffer _) 0 ∙ short-answer a.stage a.file.now a.jumpers.now a.limit a.out.now u right.listed less _ (omega arith),
-      short-buffer a.stage a.file.now a.jumpers.now a.limit a.out.now u right.listed less,
+      answered_err (LentBuffer _) 0 ∙ short-answer a.stage a.file.now a.jumpers.now a.limit a.out.now u r.listed less _ (omega arith),
+      short-buffer a.stage a.file.now a.jumpers.now a.limit a.out.now u r.listed less,
     )
 
 pub write-requires : goal.write-requires
@@ -84,16 +91,14 @@ returns g c =
     let a = c.args in
     let n = c.in_ok-net.ensures.net in
     let u = sym (ap met c.in_ok-net.ensures.verdict) in
-    let zero = ap (λ (v : Verdict). v.number) (sym c.in_ok-net.ensures.verdict) in
-    let e = list_at a.stage a.file.now a.jumpers.now n.1 n.2 n.0 n.3 c.in_ok-check.ensures in
-    let right = right_here a.stage a.file.now a.jumpers.now zero e refl in
+    let r = right g (goal.at.returns g c).In_ok-check in
     let v = version_of a.file.now in
     let os = obstacles_of a.file.now in
-    let records = counted n.1 n.2 v os a.stage c.piece_count-records.ensures.0 right in
+    let records = counted n.1 n.2 v os a.stage c.piece_count-records.ensures.0 r in
     let written =
-    c.write.ensures v os (right_of n.1 n.2 v os a.stage right)
+    c.write.ensures v os (right_of n.1 n.2 v os a.stage r)
     ∙ ap (λ (s : Stage). pieces_buffer s a.limit a.jumpers.now a.out.now) (stage-of n.1 n.2 v os a.stage) in
     let room : record_bytes * piece_count (net_at a.file.now a.stage) a.jumpers.now ≤ length a.out.now = omega (arith, c.if-out-needed.false) in (
-      answered_ok _ ∙ done-answer a.stage a.file.now a.jumpers.now a.limit a.out.now u right.listed room _ records,
-      written ∙ done-buffer a.stage a.file.now a.jumpers.now a.limit a.out.now u right.listed room,
+      answered_ok _ ∙ done-answer a.stage a.file.now a.jumpers.now a.limit a.out.now u r.listed room _ records,
+      written ∙ done-buffer a.stage a.file.now a.jumpers.now a.limit a.out.now u r.listed room,
     )
