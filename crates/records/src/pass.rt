@@ -12,7 +12,7 @@ use lists::doubling::entries_end;
 use net::fields::node_count;
 use net::layout::MOST_NODES;
 
-// Takes wire after wire; for each node the place of its piece's record is kept.
+// Takes wire after wire; for each node the place of its piece's record is kept. `wire` says why `places` and the buffer are parameters of their own.
 fn take_wires(net: NetWithJumpers, limit: u32, places: &mut [usize], out: &mut [u8])
     requires nodes_in_bounds { node_count net.nodes.now ≤ length places.old }
     requires records_fit { RecordsFit net limit out.old }

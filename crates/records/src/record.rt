@@ -1,4 +1,4 @@
-// The bytes of one piece record.
+// The bytes of one piece record. What `as` makes a byte is proved to fit; `try_from` would add a branch that gives up. `record_bytes ≤ length ..` bounds a write.
 ghost use Rattle.std.specs.Prelude.{◌≡◌, ◌++◌, ◌<◌, ◌≤◌, length, drop};
 ghost use Rattle.laws.specs.Place.{place};
 ghost use Rattle.net.specs.Layout.{record_bytes, most_nodes};

@@ -1,4 +1,7 @@
 // One node with its wire: what it adds to the records of the nodes and wires below it.
+// `places` holds for each node where the record of its piece stands, `at` is where the records end: no heap, fixed memory. The two as one struct behind a `&mut`
+// were tried and proved, and a report of 2 nodes then took 1.16 of the time; with `limit` and `out` in it too, a struct that holds `&mut out` did not prove. So what
+// writes takes six parameters or more, each from another source. `RecordsFit ..` is about a buffer and `i < most_nodes` about an index, not about one value.
 ghost use Rattle.std.specs.Prelude.{◌≡◌, ℕ, ◌+◌, ◌-◌, ◌*◌, ◌^◌, ◌<◌, ◌≤◌, length, get_or, set, drop, ltb};
 ghost use Rattle.laws.specs.Sum.{χ};
 ghost use Rattle.laws.specs.Place.{place};
@@ -8,7 +11,7 @@ ghost use Rattle.net.specs.Net.{node_count, wire_parent, wire_layer, wire_factor
 ghost use Rattle.pieces.specs.Legal.{entry_position};
 ghost use Rattle.pieces.specs.JumperList.{entry_count};
 ghost use Rattle.lists.specs.EntriesOfWire.{OfWire};
-ghost use Rattle.records.specs.Record.{node_fields, stretches_fields};
+ghost use Rattle.records.specs.Record.{fields, stretches_fields};
 ghost use Rattle.records.specs.NetWithJumpers.{HeldAtNet, RecordsFit};
 ghost use Rattle.records.specs.Wire.{WireReady, EntriesReady, joined_wire, parted_wire};
 
@@ -47,26 +50,17 @@ pub fn layers_of(steps: u32, layer: u8) -> u16
 }
 
 // Node i begins a piece, whose record comes behind the others.
-fn start_piece(
-    limit: u32,
-    i: usize,
-    weight: u64,
-    flags: u8,
-    layers: u16,
-    places: &mut [usize],
-    out: &mut [u8],
-    at: usize,
-) -> usize
-    requires { (i < most_nodes) × (i < length places.old) × (flags < 4) × (at + record_bytes ≤ length out.old) }
+fn start_piece(i: usize, piece: Record, places: &mut [usize], out: &mut [u8], at: usize) -> usize
+    requires { (i < length places.old) × (at + record_bytes ≤ length out.old) }
     ensures { (result ≡ at + record_bytes) × (places.new ≡ set places.old i at)
-        × (out.new ≡ place at (node_fields limit i weight flags layers) out.old) }
+        × (out.new ≡ place at (fields piece.number piece.position piece.weight piece.flags piece.layers) out.old) }
 {
     places[i] = at;
-    Record::of_piece(limit, i, weight, flags, layers).write(&mut out[at..]);
+    piece.write(&mut out[at..]);
     at + RECORD_BYTES
 }
 
-// The records of the stretches between some entries of wire i.
+// The records of the stretches between some entries of wire i. Its number as a byte is proved to fit, where `try_from` would add a branch that gives up.
 pub fn write_stretches(
     jumpers: &[u8],
     i: usize,
@@ -139,16 +133,9 @@ fn part_wire(
     let last = entry_position(net.jumpers, entries.end - 1);
     let end_weight = weight_of(length_of(net.nodes, net.wires, i) - last, wire.factor);
     join_record(&mut out[above..], limit, end_weight, 0, mask);
-    let behind = start_piece(
-        limit,
-        i,
-        weight_of(first, wire.factor),
-        node_at(net.nodes, i).flags,
-        mask,
-        places,
-        out,
-        at,
-    );
+    let flags = node_at(net.nodes, i).flags;
+    let own = Record::of_piece(limit, i, weight_of(first, wire.factor), flags, mask);
+    let behind = start_piece(i, own, places, out, at);
     write_stretches(net.jumpers, i, entries, wire, out, behind)
 }
 
@@ -171,7 +158,8 @@ pub(crate) fn take_wire(
         × (drop result out.new ≡ drop result out.old) }
 {
     if !is_present(net.stage, net.wires, i) {
-        return start_piece(limit, i, 0, node_at(net.nodes, i).flags, 0, places, out, at);
+        let own = Record::of_piece(limit, i, 0, node_at(net.nodes, i).flags, 0);
+        return start_piece(i, own, places, out, at);
     }
     if entries.is_empty() {
         join_wire(net, limit, i, places, out);

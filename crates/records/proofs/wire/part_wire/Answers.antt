@@ -40,6 +40,7 @@ above-joined limit ns ws list places i end out x {p} {n} {t} {w} {m} pe ne te we
 pub returns : goal.returns
 returns c =
     let z = c.write_stretches in
+    let o = c.of_piece-own.ensures in
     let a = c.args in
     let w = wire_factor a.net.wires.now a.i in
     let t = c.requires.entries_ready in
@@ -53,8 +54,8 @@ returns c =
       omega (arith, z.ensures.0, c.start_piece-behind.ensures.0, t.some),
       c.start_piece-behind.ensures.1,
       behind-place a.at c.start_piece-behind.result
-          (same-fields a.limit a.i (rw (c.wire_at-wire.ensures.factor, c.entry_position-first.ensures) at c.weight_of.ensures.0) c.node_at.ensures.flags mask)
+          (same-fields a.limit a.i (rw (c.wire_at-wire.ensures.factor, c.entry_position-first.ensures) at c.weight_of.ensures.0) c.node_at-flags.ensures.flags mask)
           (same-stretches a.net.jumpers.now a.i a.entries.start (a.entries.end - a.entries.start - 1) c.wire_at-wire.ensures.factor c.wire_at-wire.ensures.layer)
           buffer (omega (arith, c.start_piece-behind.ensures.0, q)) (omega (arith, t.some, c.requires.room, q, r, long, ap length buffer))
-          c.start_piece-behind.ensures.2 z.ensures.1,
+          (rw (o.0, o.1, o.2, o.3, o.4) at c.start_piece-behind.ensures.2) z.ensures.1,
     )

@@ -29,17 +29,16 @@ is_present-requires c =
     let a = c.args in
     stored_of _ _ _ _ (accepted_of a.net) a.i c.requires.i_bound.0
 
+pub of_piece-own-requires : goal.of_piece-own-requires
+of_piece-own-requires c =
+    let a = c.args in
+    let h = c.requires.i_bound.0 in
+    (node-small _ _ _ _ (accepted_of a.net) a.i h, omega (arith, c.node_at.ensures.flags, (accepted_of a.net).2.right.flags a.i h))
+
 pub start_piece-requires : goal.start_piece-requires
 start_piece-requires c =
-    let a = c.args in
-    let r = c.requires in
     let here = ready_here (goal.at.start_piece-requires c).After-is_present in
-    let h = r.i_bound.0 in (
-      node-small _ _ _ _ (accepted_of a.net) a.i h,
-      omega (arith, h, r.nodes_in_bounds),
-      omega (arith, c.node_at.ensures.flags, (accepted_of a.net).2.right.flags a.i h),
-      absent-room here (sym c.is_present.ensures ∙ c.if-not-is_present.true),
-    )
+    (omega (arith, c.requires.i_bound.0, c.requires.nodes_in_bounds), absent-room here (sym c.is_present.ensures ∙ c.if-not-is_present.true))
 
 pub returns-then-not-is_present : goal.returns-then-not-is_present
 returns-then-not-is_present c =
@@ -47,8 +46,9 @@ returns-then-not-is_present c =
     let r = c.requires in
     let all = ready (goal.at.returns-then-not-is_present c).After-is_present in
     let e = c.start_piece.ensures in
+    let o = c.of_piece-own.ensures in
     taken_wire (accepted_of a.net)
-    (λ v os j. taken_absent (all v os j) (sym c.is_present.ensures ∙ c.if-not-is_present.true) c.node_at.result.flags c.start_piece.result c.node_at.ensures.flags e.0 e.1 e.2)
+    (λ v os j. taken_absent (all v os j) (sym c.is_present.ensures ∙ c.if-not-is_present.true) c.node_at.result.flags c.start_piece.result c.node_at.ensures.flags e.0 e.1 (rw (o.0, o.1, o.2, o.3, o.4) at e.2))
 
 pub join_wire-requires : goal.join_wire-requires
 join_wire-requires c =
