@@ -28,7 +28,9 @@ pub(crate) trait Steps {
         ensures { AtNet net.entry (λ s. out.new ≡ pieces_buffer s limit net.entry.jumpers.now out.old) };
 }
 
-// What is tried, in order: 1, 2 to 11 and 20, 12 to 14, 16; then the records are written, and their number is answered.
+// What is tried, in order: 1, 2 to 11 and 20, 12 to 14, 16; then the records are written, and their number is answered. Two public calls call it, each with
+// its own steps, and each carries its promise. The stage as a byte is proved to fit, where `try_from` would add a branch that gives up; std has no `From` between
+// usize and u64.
 pub(crate) fn report_by<S: Steps>(
     stage: u32,
     limit: u32,
