@@ -64,8 +64,8 @@ pub fn is_barred(
 }
 
 // Obstacle k bars the point p to a wire of a layer. One coordinate is read after another, since most obstacles are passed at their first; `bars` has the whole
-// obstacle, which the searches need where it bars. They are two by what was measured: a report of 8,000 jumpers under 256 obstacles took 1.52 of the time before
-// the design pass by whole obstacles, and takes 1.03 by coordinates (docs/DECISIONS.md).
+// obstacle, which the searches need where it bars. Measured: a report of 8,000 jumpers under 256 obstacles took 1.52 of the time before the design pass by whole
+// obstacles, and takes 1.03 by coordinates.
 fn bars_point(version: u16, obstacles: &[u8], layer: u8, k: usize, p: Point) -> bool
     requires { k < obstacle_count version obstacles.now }
     ensures { result ≡ bars version obstacles.now layer k p.x p.y }
@@ -122,7 +122,7 @@ fn highest_free(obstacles: &[u8], line: Line, last: u32) -> Option<u32>
     None
 }
 
-// The search up, for positions below `end`, by steps as down; with a direction as a parameter both searches would take each comparison twice.
+// The search up, by steps like those down, for positions below `end`; with a direction as a parameter both searches would take each comparison twice.
 fn lowest_free(obstacles: &[u8], line: Line, first: u32, end: u32) -> Option<u32>
     requires { Reaches line end × (0 < first) }
     ensures { Lowest (barred_at obstacles.now line) first end result }

@@ -49,7 +49,7 @@ impl Axis {
         (i32::from(self.from) + self.step * t as i32) as u16
     }
 
-    // The last position below those whose coordinate is one of low to high, the obstacle's sides on this axis: it has them as four numbers, no struct of two.
+    // The last position below those whose coordinate is one of low to high. They are two of an obstacle's four numbers; a struct of them would be made for one call.
     pub(crate) fn last_below(self, low: u16, high: u16) -> u32
         ensures { result ≡ last_below self.from self.step low high }
     {
