@@ -10,7 +10,7 @@ use Rattle.pieces.specs.Legal.{entry_position}
 use Rattle.pieces.specs.JumperList.{entry_count}
 use Rattle.records.specs.Record.{node_fields, NodeRecord, joined, stretches_fields}
 
--- what an accepted net gives of wire i: it was checked, it hangs on a node below, and its layer is one of a net
+-- what an accepted net gives of wire i: it was checked, the number of its parent is below its own, and its layer is one of those that a net has
 pub record WireAccepted (ns ws : List ℕ) (i : ℕ) : Type 0 where
   pub small : i < most_nodes
   pub checked : Checked ns ws i
