@@ -1,4 +1,4 @@
-// The public calls of the desk as C exports, each with the clauses of the call behind it.
+// The public calls of the desk as C exports, each with the clauses of the call behind it: the C interface has each call a second time, with an Answer of the result.
 #![tactic(auto)]
 
 ghost use Rattle.std.specs.Prelude.{◌≡◌, length};
@@ -66,6 +66,7 @@ pub extern "C" fn antenna_def(
 {
     match antenna::antenna_def(text, place, pins, obstacles, out) {
         Ok(file) => Answer {
+            // the C interface: 0 is done, and the place is that after `;`
             number: 0,
             place: file.end as u64,
             count: file.bytes,

@@ -33,6 +33,7 @@ pub fn read_input<R: Read>(from: &mut R, input: &mut [u8]) -> io::Result<usize>
     Ok(got)
 }
 
+// The stage; 0 for an input of under five bytes, a stage that the call refuses. An Option would have 0 put for None by both programs.
 pub fn stage_of(input: &[u8]) -> u32
     ensures { result ≡ input_stage input.now }
 {
@@ -42,6 +43,7 @@ pub fn stage_of(input: &[u8]) -> u32
     u32::from(input[0])
 }
 
+// The limit; 0 for an input of under five bytes, like the stage.
 pub fn limit_of(input: &[u8]) -> u32
     ensures { result ≡ input_limit input.now }
 {

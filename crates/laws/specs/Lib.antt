@@ -8,5 +8,6 @@ pub mod Gather
 pub mod Gathers
 pub mod Masks
 pub mod Place
+pub mod Results
 pub mod Indexed
 pub mod Written

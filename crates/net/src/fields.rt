@@ -1,4 +1,4 @@
-// Fields of nodes, wires and obstacles, read in place from their sections.
+// Fields of nodes, wires and obstacles, read in place from their sections. Each asks that its record is there and no more: a Net would ask more of callers.
 ghost use Rattle.std.specs.Prelude.{◌≡◌, ◌&&◌, ◌+◌, ◌*◌, ◌<◌, ◌≤◌, length, ltb, leb};
 ghost use Rattle.laws.specs.Bytes.{le16, le32};
 ghost use Rattle.net.specs.Layout.{wire_bytes, obstacle_bytes};

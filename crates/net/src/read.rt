@@ -1,4 +1,6 @@
 // The reader: the first refusal met in a net file, or in three sections.
+// The sections come one by one, from a file or from C, and are a Net only when they are accepted: so the functions before that take each.
+// A place is the record's number by `as`: std has no From of usize to u64, and try_from would add a branch that gives up.
 ghost use Rattle.std.specs.Prelude.{◌≡◌, ◌+◌, ◌-◌, ◌*◌, ◌<◌, ◌≤◌, length, IfOk};
 ghost use Rattle.net.specs.Layout.{wire_bytes};
 ghost use Rattle.net.specs.Net.{node_count, obstacle_count};
@@ -79,7 +81,7 @@ fn sections_refusal(
     Ok(())
 }
 
-// Each node: 7.
+// Each node: 7. It, wires_refusal and obstacles_refusal are the loop and the `?` alone: one function over a closure would be no shorter in its calls, and take a contract besides.
 fn nodes_refusal(nodes: &[u8]) -> Result<(), Refusal>
     ensures { checked result ≡ first_of (node_count nodes.now) (λ i. node_refusal nodes.now i) }
 {

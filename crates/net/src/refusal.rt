@@ -4,6 +4,7 @@ ghost use Rattle.net.specs.Numbers.{number_of, place_of, answered};
 
 use crate::Answer;
 
+// No Display: the programs print number and place, and a text would have no reader.
 // Where a record is to blame, its number stands inside; for LentBuffer it is the number of bytes needed, for RouteForm and RoutePoint a place in the text.
 #[derive(Clone, Copy, Debug, PartialEq, Eq)]
 pub enum Refusal {
@@ -93,6 +94,7 @@ impl From<Result<u64, Refusal>> for Answer {
     fn from(r: Result<u64, Refusal>) -> Answer {
         match r {
             Ok(count) => Answer {
+                // the C interface: 0 is done
                 number: 0,
                 place: 0,
                 count,

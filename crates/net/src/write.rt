@@ -1,4 +1,5 @@
 // The writer: three sections written as one net file of a version.
+// The sections stay parameters: C hands them over one by one, and write_file takes any that fit, where a Net would ask more.
 ghost use Rattle.std.specs.Prelude.{◌≡◌, ◌++◌, ◌+◌, ◌<◌, ◌≤◌, length};
 ghost use Rattle.laws.specs.Bytes.{bytes16, bytes32};
 ghost use Rattle.laws.specs.Lists.{over};
@@ -26,6 +27,7 @@ pub fn write(
     if !is_version(version) {
         return Err(Refusal::Head);
     }
+    // fits, as is_version says, and try_from would add a branch that gives up
     let file_version = version as u16;
     net_refusal(file_version, nodes, wires, obstacles)?;
     let needed = HEAD_BYTES + nodes.len() + wires.len() + obstacles.len();

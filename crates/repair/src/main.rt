@@ -12,7 +12,7 @@ use net::refusal::Refusal;
 use std::io;
 use std::io::{Read, Write};
 
-// `jumpers` and the count, then the list; or the refusal.
+// `jumpers` and the count, then the list; or the refusal. `as` on the count: std has no From of u64 to usize, and try_from would add a branch that gives up.
 fn print_answer<W: Write>(to: &mut W, answer: Result<u64, Refusal>, out: &[u8]) -> io::Result<()>
     requires { IfOk answer (λ n. entry_bytes * n ≤ length out.now) }
     ensures { OnOk result (Appends (W.contents to.old) (W.contents to.new) (answer_lines (answered answer) out.now)) }
@@ -26,7 +26,7 @@ fn print_answer<W: Write>(to: &mut W, answer: Result<u64, Refusal>, out: &[u8]) 
     }
 }
 
-// Reads at most 8,192 bytes, and prints the answer to them.
+// Reads at most 8,192 bytes, and prints the answer to them. `run` of report reads alike: one for both would take call and printing as closures with their contracts, no plainer.
 fn run<R: Read, W: Write>(from: &mut R, to: &mut W) -> io::Result<()>
     ensures { OnOk result (IfSome (R.remaining from.old) (λ xs. (lines : List ℕ) × Printed (take most_input xs) lines × Appends (W.contents to.old) (W.contents to.new) lines)) }
 {

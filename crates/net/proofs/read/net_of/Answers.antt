@@ -1,6 +1,7 @@
 -- `net::read::net_of` meets its contract.
 -- Assumes nothing.
-use Rattle.std.proofs.lemmas.Result.{err_from_is_err_and}
+use Rattle.laws.specs.Results.{err_passed}
+use Rattle.net.specs.Numbers.{checked}
 use mathlib.Core.Path.{◌∙◌, ap, sym, refl}
 use Rattle.net.specs.Refusal.{none, met}
 use Rattle.net.specs.Accepted.{head_right_of}
@@ -10,23 +11,14 @@ use Rattle.net.proofs.read.net_of.Goals as goal
 
 pub returns-in_err-head_and_pairs_refusal-clause-verdict : goal.returns-in_err-head_and_pairs_refusal-clause-verdict
 returns-in_err-head_and_pairs_refusal-clause-verdict c =
-    let p = err_from_is_err_and c.from_residual.result c.from_residual.ensures.1 in rw (p.1, p.2) (read_head _ _ c.in_err-head_and_pairs_refusal.ensures (met_refusal _))
+    err_passed checked _ c.from_residual.ensures.1 (read_head _ _ c.in_err-head_and_pairs_refusal.ensures (met_refusal _))
 
 pub version-version-requires : goal.version-version-requires
 version-version-requires c = (head_right_of _ (sym (ap met c.in_ok-head_and_pairs_refusal.ensures))).long
 
-pub stretch-nodes-requires : goal.stretch-nodes-requires
-stretch-nodes-requires c = sym (ap met c.in_ok-head_and_pairs_refusal.ensures)
-
-pub stretch-wires-requires : goal.stretch-wires-requires
-stretch-wires-requires c = sym (ap met c.in_ok-head_and_pairs_refusal.ensures)
-
-pub stretch-obstacles-requires : goal.stretch-obstacles-requires
-stretch-obstacles-requires c = sym (ap met c.in_ok-head_and_pairs_refusal.ensures)
-
 pub returns-in_err-net_refusal-clause-verdict : goal.returns-in_err-net_refusal-clause-verdict
 returns-in_err-net_refusal-clause-verdict c =
-    let p = err_from_is_err_and c.from_residual-in_err-net_refusal.result c.from_residual-in_err-net_refusal.ensures.1 in rw (p.1, p.2) (read_net _ _ none c.in_ok-head_and_pairs_refusal.ensures refl
+    err_passed checked _ c.from_residual-in_err-net_refusal.ensures.1 (read_net _ _ none c.in_ok-head_and_pairs_refusal.ensures refl
     (rw (← c.version-version.ensures, ← c.stretch-nodes.ensures, ← c.stretch-wires.ensures, ← c.stretch-obstacles.ensures) c.in_err-net_refusal.ensures))
 
 pub returns-clause-verdict : goal.returns-clause-verdict

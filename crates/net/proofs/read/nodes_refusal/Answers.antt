@@ -3,7 +3,7 @@
 use mathlib.Core.Path.{refl}
 use native.Mathlib.Omega.{arith}
 use Rattle.net.specs.Reading.{node_flags_lem, node-right}
-use Rattle.net.specs.First.{first-start, first_more, first-here, first-all}
+use Rattle.net.specs.First.{first-start, first_more, first-here}
 use Rattle.net.proofs.read.nodes_refusal.Goals as goal
 
 pub loop-i-init : goal.loop-i-init
@@ -14,6 +14,3 @@ returns-then-node_at-gt-MOST_FLAGS c = first-here _ _ _ (omega arith) c.loop-i.i
 
 pub loop-i-preserved : goal.loop-i-preserved
 loop-i-preserved c = first_more _ _ c.loop-i.invariant (node-right _ _ (omega arith))
-
-pub returns : goal.returns
-returns c = first-all _ _ _ (omega arith) c.loop-i.invariant

@@ -1,8 +1,9 @@
 -- `net::read::obstacles_refusal` meets its contract.
 -- Assumes nothing.
 use native.Mathlib.Omega.{arith}
-use Rattle.std.proofs.lemmas.Result.{err_from_is_err_and}
-use Rattle.net.specs.First.{first-start, first_more, first-here, first-all}
+use Rattle.laws.specs.Results.{err_passed}
+use Rattle.net.specs.Numbers.{checked}
+use Rattle.net.specs.First.{first-start, first_more, first-here}
 use Rattle.net.specs.Answered.{met_refusal}
 use Rattle.net.proofs.read.obstacles_refusal.Goals as goal
 
@@ -11,10 +12,7 @@ loop-k-init c = first-start _
 
 pub returns-in_err-obstacle_refusal : goal.returns-in_err-obstacle_refusal
 returns-in_err-obstacle_refusal c =
-    let p = err_from_is_err_and c.from_residual.result c.from_residual.ensures.1 in rw (p.1, p.2) (first-here _ _ _ (omega arith) c.loop-k.invariant c.in_err-obstacle_refusal.ensures (met_refusal _))
+    err_passed checked _ c.from_residual.ensures.1 (first-here _ _ _ (omega arith) c.loop-k.invariant c.in_err-obstacle_refusal.ensures (met_refusal _))
 
 pub loop-k-preserved : goal.loop-k-preserved
 loop-k-preserved c = first_more _ _ c.loop-k.invariant c.in_ok-obstacle_refusal.ensures
-
-pub returns : goal.returns
-returns c = first-all _ _ _ (omega arith) c.loop-k.invariant

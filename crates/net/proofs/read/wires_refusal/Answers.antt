@@ -1,9 +1,10 @@
 -- `net::read::wires_refusal` meets its contract.
 -- Assumes nothing.
 use native.Mathlib.Omega.{arith}
-use Rattle.std.proofs.lemmas.Result.{err_from_is_err_and}
+use Rattle.laws.specs.Results.{err_passed}
+use Rattle.net.specs.Numbers.{checked}
 use Rattle.net.specs.Reading.{wires-more, wires-here}
-use Rattle.net.specs.First.{first-start, first-all}
+use Rattle.net.specs.First.{first-start}
 use Rattle.net.specs.Answered.{met_refusal}
 use Rattle.net.proofs.read.wires_refusal.Goals as goal
 
@@ -12,10 +13,7 @@ loop-i-init c = (omega arith, omega arith, first-start _)
 
 pub returns-in_err-wire_refusal : goal.returns-in_err-wire_refusal
 returns-in_err-wire_refusal c =
-    let p = err_from_is_err_and c.from_residual.result c.from_residual.ensures.1 in rw (p.1, p.2) (wires-here _ _ _ (omega arith) c.loop-i.invariant.2 _ _ (omega arith) c.in_err-wire_refusal.ensures (met_refusal _))
+    err_passed checked _ c.from_residual.ensures.1 (wires-here _ _ _ (omega arith) c.loop-i.invariant.2 _ _ (omega arith) c.in_err-wire_refusal.ensures (met_refusal _))
 
 pub loop-i-preserved : goal.loop-i-preserved
 loop-i-preserved c = (omega arith, omega arith, wires-more _ _ _ c.loop-i.invariant.0 c.loop-i.invariant.2 c.in_ok-wire_refusal.ensures)
-
-pub returns : goal.returns
-returns c = first-all _ _ _ (omega arith) c.loop-i.invariant.2

@@ -6,9 +6,6 @@ use Rattle.net.specs.Answered.{met_refusal}
 use Rattle.net.specs.Reading.{section_empty, section_stretch}
 use Rattle.net.proofs.sections.section_or_empty.Goals as goal
 
-pub stretch-requires : goal.stretch-requires
-stretch-requires c = sym (ap met c.in-Ok.ensures)
-
 pub returns-in-Ok : goal.returns-in-Ok
 returns-in-Ok c = c.stretch.ensures ∙ section_stretch _ _ (sym (ap met c.in-Ok.ensures))
 
