@@ -10,7 +10,7 @@ use Rattle.std.proofs.lemmas.List.Sums.{position_or_len_is}
 use Rattle.laws.specs.Sum.{any, lowest}
 use Rattle.laws.specs.Sums.{by, and_no_right, and_false, any-no, any_none, lowest-passes, lowest_is, lowest-least, lowest-none, lowest-≤}
 use Rattle.paths.specs.declared.Point.{Point}
-use Rattle.routes.specs.declared.Placed.TheVariants.{Refused, Known, New}
+use Rattle.routes.specs.declared.Placed.TheVariants.{Known, New}
 use Rattle.routes.specs.declared.Node.{Node}
 use Rattle.routes.specs.Nodes.{no_node, node_at, known, known_at, number_on, lowest_at, higher, point_refused}
 use Rattle.routes.specs.Table.{placed}
@@ -88,30 +88,30 @@ higher-alone found layer = rw (get_or-eq_default found no_node {n = length found
 module _ (nodes : List Node) (last : ℕ) (p : Point) where
   -- a later point of a path
   module _ (f : p.first ≡ false) where
-    pub placed_again : known nodes p.x p.y p.layer ≡ true → Refused ≡ placed nodes last p
+    pub placed_again : known nodes p.x p.y p.layer ≡ true → None ≡ placed nodes last p
     unfolding point_refused
     placed_again k = rw (f, k)
 
-    pub placed_behind : known nodes p.x p.y p.layer ≡ false → New last p.layer ≡ placed nodes last p
+    pub placed_behind : known nodes p.x p.y p.layer ≡ false → Some (New last p.layer) ≡ placed nodes last p
     unfolding point_refused
     placed_behind k = rw (f, k)
 
   -- a path's first point
   module _ (f : p.first ≡ true) where
-    pub placed_alone : length nodes ≡ 0 → New 0 p.layer ≡ placed nodes last p
+    pub placed_alone : length nodes ≡ 0 → Some (New 0 p.layer) ≡ placed nodes last p
     unfolding point_refused known_at known lowest_at any lowest
     placed_alone e = rw (f, e, get_or-eq_default nodes no_node {n = 0} (omega arith), le-ltb p.layer 0 (omega arith))
 
-    pub placed_nowhere : known_at nodes p.x p.y ≡ false → (length nodes ≡ 0 → ⊥) → Refused ≡ placed nodes last p
+    pub placed_nowhere : known_at nodes p.x p.y ≡ false → (length nodes ≡ 0 → ⊥) → None ≡ placed nodes last p
     unfolding point_refused
     placed_nowhere k e = rw (f, k, ne_eqb (length nodes) 0 e)
 
     module _ (k : known_at nodes p.x p.y ≡ true) where
-      pub placed_known : known nodes p.x p.y p.layer ≡ true → Known (number_on nodes p.x p.y p.layer) ≡ placed nodes last p
+      pub placed_known : known nodes p.x p.y p.layer ≡ true → Some (Known (number_on nodes p.x p.y p.layer)) ≡ placed nodes last p
       unfolding point_refused
       placed_known on = rw (f, k, on, and_false)
 
       pub placed_via : known nodes p.x p.y p.layer ≡ false
-          → New (lowest_at nodes p.x p.y) (higher p.layer (node_at nodes (lowest_at nodes p.x p.y)).layer) ≡ placed nodes last p
+          → Some (New (lowest_at nodes p.x p.y) (higher p.layer (node_at nodes (lowest_at nodes p.x p.y)).layer)) ≡ placed nodes last p
       unfolding point_refused
       placed_via on = rw (f, k, on, and_false)

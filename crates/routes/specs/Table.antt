@@ -9,7 +9,7 @@ use Rattle.paths.specs.Form.{points_of}
 use Rattle.routes.specs.declared.Route.{Route}
 use Rattle.routes.specs.declared.Found.{Found}
 use Rattle.routes.specs.declared.Placed.{Placed}
-use Rattle.routes.specs.declared.Placed.TheVariants.{Refused, Known, New}
+use Rattle.routes.specs.declared.Placed.TheVariants.{Known, New}
 use Rattle.routes.specs.declared.Node.{Node}
 use Rattle.routes.specs.Nodes.{node_at, known, number_on, lowest_at, higher, point_refused, route_refusal, route_nodes, route_end}
 
@@ -26,13 +26,13 @@ abbrev pub found_at : List Node → Point → Option Found
 found_at nodes before =
     cond (ltb most_nodes (length nodes)) None (Some (record { count = length nodes; last = number_on nodes before.x before.y before.layer }))
 
--- what a point does to the nodes found so far, where `last` is the node of the point before
-abbrev pub placed : List Node → ℕ → Point → Placed
+-- what a point does to the nodes found so far, where `last` is the node of the point before; none where 18 refuses it
+abbrev pub placed : List Node → ℕ → Point → Option Placed
 placed nodes last p =
     let via = lowest_at nodes p.x p.y in
-    cond (point_refused nodes p) Refused
-    (cond (known nodes p.x p.y p.layer) (Known (number_on nodes p.x p.y p.layer))
-    (New (cond p.first via last) (cond p.first (higher p.layer (node_at nodes via).layer) p.layer)))
+    cond (point_refused nodes p) None
+    (Some (cond (known nodes p.x p.y p.layer) (Known (number_on nodes p.x p.y p.layer))
+    (New (cond p.first via last) (cond p.first (higher p.layer (node_at nodes via).layer) p.layer))))
 
 -- a route that is met by neither 17 nor 18
 pub record IsRoute (text : List ℕ) (from : ℕ) (r : Route) : Type 0 where

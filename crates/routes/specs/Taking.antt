@@ -1,9 +1,10 @@
 -- What taking a point leads to: past the table, refused, already a node, or a node more.
 -- Assumes nothing.
-use Rattle.std.specs.Prelude.{ℕ, ◌+◌, ◌<◌, ◌≤◌, ◌≡◌, refl, Bool, true, false, cond, List, ◌∷◌, Option, Some, None, is_some, is_none, Ok, Err, ltb, length, take, set}
+use Rattle.std.specs.Prelude.{ℕ, ◌+◌, ◌<◌, ◌≤◌, ◌≡◌, refl, Bool, true, false, cond, List, ◌∷◌, Option, Some, None, is_some, is_none, Result, Ok, Err, ltb, length, take, set}
 use Rattle.std.proofs.Common.{◌∙◌, sym, arith, ne_eqb, lt-ltb, le-ltb}
 use Rattle.std.proofs.lemmas.Bool.{ltb-true, ltb-false}
 use Rattle.std.proofs.Math.Seq.{length-take-le}
+use Rattle.std.specs.Result.{result_ok}
 use Rattle.laws.specs.Sums.{by, lowest-none}
 use Rattle.net.specs.declared.refusal.Refusal.TheVariants.{RoutePoint}
 use Rattle.net.specs.Layout.{most_nodes}
@@ -13,7 +14,7 @@ use Rattle.paths.specs.Again.{stands_within, first_read}
 use Rattle.paths.specs.AgainLaws.{first_some, first-none}
 use Rattle.routes.specs.declared.Found.{Found}
 use Rattle.routes.specs.declared.Placed.{Placed}
-use Rattle.routes.specs.declared.Placed.TheVariants.{Refused, Known, New}
+use Rattle.routes.specs.declared.Placed.TheVariants.{Known, New}
 use Rattle.routes.specs.declared.Node.{Node}
 use Rattle.routes.specs.Nodes.{node_at, known, number_on, lowest_at, higher, made_by, reach, point_refused}
 use Rattle.routes.specs.Table.{found_at, placed}
@@ -34,22 +35,29 @@ found-many nodes before e = by (ltb most_nodes (length nodes)) (λ y. ltb-true m
 
 -- the answers of placing
 module _ (nodes : List Node) (last : ℕ) (p : Point) where
-  as_refused : Refused ≡ placed nodes last p → point_refused nodes p ≡ true
+  as_refused : None ≡ placed nodes last p → point_refused nodes p ≡ true
   as_refused e = by (point_refused nodes p) (λ y. y) (λ z. by (known nodes p.x p.y p.layer) (λ k. let q = rw (z, k) at e in cc) (λ k. let q = rw (z, k) at e in cc))
 
-  as_known : {n : ℕ} → Known n ≡ placed nodes last p → (point_refused nodes p ≡ false) × (known nodes p.x p.y p.layer ≡ true) × (n ≡ number_on nodes p.x p.y p.layer)
+  as_known : {n : ℕ} → Some (Known n) ≡ placed nodes last p → (point_refused nodes p ≡ false) × (known nodes p.x p.y p.layer ≡ true) × (n ≡ number_on nodes p.x p.y p.layer)
   as_known e =
       by (point_refused nodes p)
       (λ y. let q = rw y at e in cc)
       (λ z. by (known nodes p.x p.y p.layer) (λ k. let q = rw (z, k) at e in (z, k, cc)) (λ k. let q = rw (z, k) at e in cc))
 
-  as_new : {parent wire : ℕ} → New parent wire ≡ placed nodes last p
+  as_new : {parent wire : ℕ} → Some (New parent wire) ≡ placed nodes last p
       → (point_refused nodes p ≡ false) × (known nodes p.x p.y p.layer ≡ false)
       × (parent ≡ cond p.first (lowest_at nodes p.x p.y) last) × (wire ≡ cond p.first (higher p.layer (node_at nodes (lowest_at nodes p.x p.y)).layer) p.layer)
   as_new e =
       by (point_refused nodes p)
       (λ y. let q = rw y at e in cc)
       (λ z. by (known nodes p.x p.y p.layer) (λ k. let q = rw (z, k) at e in cc) (λ k. let q = rw (z, k) at e in (z, k, cc, cc)))
+
+-- what an Option said that was made a Result
+pub handed_on : {T E : Type 0} {o : Option T} {r : Result T E} {x y : T} → o ≡ result_ok r → r ≡ Ok x → x ≡ y → o ≡ Some y
+handed_on a b d = cc
+
+pub handed_none : {T E : Type 0} {o : Option T} {r : Result T E} {e : E} → o ≡ result_ok r → r ≡ Err e → o ≡ None
+handed_none a b = cc
 
 -- the number of a node that is not there
 number_none : (nodes : List Node) (p : Point) → known nodes p.x p.y p.layer ≡ false → number_on nodes p.x p.y p.layer ≡ length nodes
@@ -90,22 +98,22 @@ module _ {all rest : List Point} {p : Point} {points : ℕ} {found : Option Foun
       taken : take f.count table ≡ r.nodes
       taken = rw near.0 (holds_all r.holds near.2 (length-take-le (length r.nodes) table (omega (arith, near))))
 
-      module _ {q : Placed} (w : q ≡ placed (take f.count table) f.last p) where
+      module _ {q : Option Placed} (w : q ≡ placed (take f.count table) f.last p) where
         here : q ≡ placed r.nodes f.last p
         here = rw taken at w
 
-        pub took_refused : q ≡ Refused → Took all rest points p (Err (RoutePoint p.at)) table
+        pub took_refused : q ≡ None → Took all rest points p (Err (RoutePoint p.at)) table
         took_refused o = (refl, here-refused r (as_refused r.nodes f.last p (sym o ∙ here)))
 
         module _ (b : p.layer < 256) where
-          pub took_known : {n : ℕ} → q ≡ Known n → Took all rest points p (Ok (Some (record { count = f.count; last = n }))) table
+          pub took_known : {n : ℕ} → q ≡ Some (Known n) → Took all rest points p (Ok (Some (record { count = f.count; last = n }))) table
           took_known o =
               let a = as_known r.nodes f.last p (sym o ∙ here) in
               let s = reach-known r.nodes r.before p a.1 in
               reached_more r a.0 b _ table (rw (s, near.0, a.2, le-ltb most_nodes (length r.nodes) near.2)) (rw s r.holds)
 
           -- a node more, past the table or in it
-          module _ {parent wire : ℕ} (o : q ≡ New parent wire) where
+          module _ {parent wire : ℕ} (o : q ≡ Some (New parent wire)) where
             new : (point_refused r.nodes p ≡ false) × (known r.nodes p.x p.y p.layer ≡ false)
                 × (parent ≡ cond p.first (lowest_at r.nodes p.x p.y) f.last) × (wire ≡ cond p.first (higher p.layer (node_at r.nodes (lowest_at r.nodes p.x p.y)).layer) p.layer)
             new = as_new r.nodes f.last p (sym o ∙ here)

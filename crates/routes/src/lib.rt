@@ -27,10 +27,9 @@ pub struct Route {
     pub nodes: [Node; MOST_NODES],
 }
 
-// What a point does to the nodes found so far: 18, nothing to the node that it is, or a new node, what it hangs on and by.
+// What a point does to the nodes found so far: nothing to the node that it is, or a new node, what it hangs on and by.
 #[derive(Clone, Copy)]
 pub enum Placed {
-    Refused,
     Known(usize),
     New { parent: usize, wire: u8 },
 }

@@ -1,4 +1,5 @@
-// The route read point by point: 17, 18 and its nodes.
+// The route read point by point: 17, 18 and its nodes. Functions on the text and a place in it: document 01 names the form.
+// `as u64`: std has no From of usize; `as u8` is proved to fit, where try_from would add a branch that gives up.
 ghost use Rattle.std.specs.Prelude.{◌≡◌, cond, List, ◌∷◌, is_some, is_none, length};
 ghost use Rattle.paths.specs.Again.{first_read};
 ghost use Rattle.paths.specs.Form.{points_of};
@@ -59,8 +60,7 @@ fn take_point(
         return Ok(None);
     };
     let count = f.count;
-    match place_point(&nodes[..count], f.last, p) {
-        Placed::Refused => Err(refused),
+    match place_point(&nodes[..count], f.last, p).ok_or(refused)? {
         Placed::Known(node) => Ok(Some(Found { count, last: node })),
         Placed::New { parent, wire } => {
             if count == MOST_NODES {

@@ -34,8 +34,8 @@ impl Route {
     }
 }
 
-// A point among the nodes found so far.
-pub fn place_point(nodes: &[Node], last: usize, p: Point) -> Placed
+// A point among the nodes found so far; None where 18 refuses it.
+pub fn place_point(nodes: &[Node], last: usize, p: Point) -> Option<Placed>
     ensures { result ≡ placed nodes.now last p }
 {
     let on = node_on(nodes, p.x, p.y, p.layer);
@@ -43,34 +43,34 @@ pub fn place_point(nodes: &[Node], last: usize, p: Point) -> Placed
         return place_first(nodes, on, p);
     }
     match on {
-        Some(_) => Placed::Refused,
-        None => Placed::New {
+        Some(_) => None,
+        None => Some(Placed::New {
             parent: last,
             wire: p.layer,
-        },
+        }),
     }
 }
 
 // A path's first point among the nodes found so far; `on` is its number on the path's layer.
-fn place_first(nodes: &[Node], on: Option<usize>, p: Point) -> Placed
+fn place_first(nodes: &[Node], on: Option<usize>, p: Point) -> Option<Placed>
     requires { (p.first ≡ true) × (on ≡ cond (known nodes.now p.x p.y p.layer) (Some (number_on nodes.now p.x p.y p.layer)) None) }
     ensures { (last : ℕ) → result ≡ placed nodes.now last p }
 {
     let Some(via) = node_at(nodes, p.x, p.y) else {
         if nodes.is_empty() {
-            return Placed::New {
+            return Some(Placed::New {
                 parent: 0,
                 wire: p.layer,
-            };
+            });
         }
-        return Placed::Refused;
+        return None;
     };
     match on {
-        Some(node) => Placed::Known(node),
-        None => Placed::New {
+        Some(node) => Some(Placed::Known(node)),
+        None => Some(Placed::New {
             parent: via,
             wire: p.layer.max(nodes[via].layer),
-        },
+        }),
     }
 }
 

@@ -5,7 +5,10 @@ use Prim.Native.Nat.{◌<◌, ◌≤◌}
 use lib.ListN.{length, take}
 use Rattle.std.proofs.Math.Seq.{length-take-le}
 use mathlib.Core.Path.{◌≡◌, ◌∙◌, sym}
-use Rattle.routes.specs.Taking.{again, took_far, took_far_refused, took_refused, took_known, took_past, took_stored, count_most, parent-within}
+use Rattle.std.specs.Prelude.{Err}
+use Rattle.std.proofs.Common.{rules}
+use Rattle.net.specs.declared.refusal.Refusal.TheVariants.{RoutePoint}
+use Rattle.routes.specs.Taking.{handed_on, handed_none, again, took_far, took_far_refused, took_refused, took_known, took_past, took_stored, count_most, parent-within}
 use Rattle.routes.proofs.reading.take_point.Goals as goal
 
 pub returns-then-is_refused : goal.returns-then-is_refused
@@ -30,23 +33,25 @@ bounds-nodes-count c = let m = count_most c.requires.1.1 c.in-Some.is in let k :
 pub offset_bounds-nodes-count : goal.offset_bounds-nodes-count
 offset_bounds-nodes-count c = let m = count_most c.requires.1.1 c.in-Some.is in record { fits = omega arith }
 
-pub returns-in-Refused : goal.returns-in-Refused
-returns-in-Refused c rest r = took_refused r c.in-Some.is c.requires.0 c.place_point.ensures c.in-Refused.is
+pub returns-in_err-node : goal.returns-in_err-node
+returns-in_err-node c rest r =
+    let e : c.from_residual.result ≡ Err (RoutePoint c.args.p.at) = search rules in
+    rw e (took_refused r c.in-Some.is c.requires.0 c.place_point.ensures (handed_none c.ok_or.ensures.ok_part c.in_err-node.was))
 
 pub returns-in-Known : goal.returns-in-Known
-returns-in-Known c rest r = took_known r c.in-Some.is c.requires.0 c.place_point.ensures (omega (arith, c.well_formed)) c.in-Known.is
+returns-in-Known c rest r = took_known r c.in-Some.is c.requires.0 c.place_point.ensures (omega (arith, c.well_formed)) (handed_on c.ok_or.ensures.ok_part c.in_ok-node.was c.in-Known.is)
 
 pub returns-then-count-eq-MOST_NODES : goal.returns-then-count-eq-MOST_NODES
 returns-then-count-eq-MOST_NODES c rest r =
-    took_past r c.in-Some.is c.requires.0 c.place_point.ensures (omega (arith, c.well_formed)) c.in-New.is c.if-count-eq-MOST_NODES.true
+    took_past r c.in-Some.is c.requires.0 c.place_point.ensures (omega (arith, c.well_formed)) (handed_on c.ok_or.ensures.ok_part c.in_ok-node.was c.in-New.is) c.if-count-eq-MOST_NODES.true
 
 pub overflow_cast-nodes : goal.overflow_cast-nodes
 overflow_cast-nodes c =
-    let w = parent-within c.requires.1.1 c.in-Some.is c.requires.0 c.place_point.ensures (omega (arith, c.well_formed)) c.in-New.is in
+    let w = parent-within c.requires.1.1 c.in-Some.is c.requires.0 c.place_point.ensures (omega (arith, c.well_formed)) (handed_on c.ok_or.ensures.ok_part c.in_ok-node.was c.in-New.is) in
     let m = count_most c.requires.1.1 c.in-Some.is in
     record { fits = omega (arith, c.if-count-eq-MOST_NODES.false) }
 
 pub returns-else-count-eq-MOST_NODES : goal.returns-else-count-eq-MOST_NODES
 returns-else-count-eq-MOST_NODES c rest r =
     let m = count_most r c.in-Some.is in
-    took_stored r c.in-Some.is c.requires.0 c.place_point.ensures (omega (arith, c.well_formed)) c.in-New.is (omega (arith, c.if-count-eq-MOST_NODES.false))
+    took_stored r c.in-Some.is c.requires.0 c.place_point.ensures (omega (arith, c.well_formed)) (handed_on c.ok_or.ensures.ok_part c.in_ok-node.was c.in-New.is) (omega (arith, c.if-count-eq-MOST_NODES.false))
