@@ -1,4 +1,5 @@
 // The points of a net's routing in a DEF text, read one after another, and read again.
+// Each function takes the text and a place in it: document 01 names the form, functions on slice and index below a thin reader (routes).
 #![tactic(auto)]
 
 ghost use Rattle.std.specs.Prelude.{◌≡◌, ◌≤◌, true, false, length, MatchResult};
@@ -8,7 +9,7 @@ ghost use Rattle.paths.specs.Again.{stands_within, first_read};
 
 use words::{Word, word_from};
 
-// A point of a path: the byte of its `(`, the path's layer, whether it is the path's first, and its coordinates.
+// A point of a path: the byte of its `(`, the path's layer, whether it is the path's first, and its coordinates. No enum of first and later points: both have all values, and are read alike.
 #[derive(Clone, Copy)]
 pub struct Point {
     pub at: usize,
@@ -37,7 +38,8 @@ pub fn start_of(text: &[u8], place: usize) -> usize
     place.min(text.len())
 }
 
-// `+ ROUTED` and the first path's first point.
+// `+ ROUTED` and the first path's first point. It, next_point and point_from are put into their callers, so that a point is not copied: as calls, they made def of 2 nodes take 1.13 of before, now 1.05.
+#[inline(always)]
 #[tactic(auto, unfolding(crate::specs::Form::beginning))]
 pub fn begin(text: &[u8], place: usize) -> Result<Read, Wrong>
     ensures { result ≡ beginning text.now place }
@@ -47,7 +49,7 @@ pub fn begin(text: &[u8], place: usize) -> Result<Read, Wrong>
     path_from(text, routed.next)
 }
 
-// What stands behind a point. It and point_from are put into their callers, so that a point is not copied: called, they made def of 2 nodes take 1.13 of before, now 1.06.
+// What stands behind a point.
 #[inline(always)]
 #[tactic(auto, unfolding(crate::specs::Form::behind))]
 pub fn next_point(text: &[u8], place: usize, p: Point) -> Result<Read, Wrong>
@@ -119,7 +121,7 @@ fn word_spelled<'a>(text: &'a [u8], place: usize, bytes: &[u8]) -> Result<Word<'
     Ok(word)
 }
 
-// Reads the text again: which of its first `points` points is the first that stands at x, y in a path of a layer from low to high.
+// Reads the text again: which of its first `points` points is the first that stands at x, y in a path of a layer from low to high. x, y, low and high are no struct: each call takes them from a point, a pin or constants.
 pub fn first_read(
     text: &[u8],
     place: usize,

@@ -1,4 +1,4 @@
-// The reader: the text and its place in it. Its methods are thin; the work is done on the slice and the place.
+// The reader: the text and its place in it. Its methods are thin, as document 01 names the form; the work is done on the slice and the place.
 ghost use Rattle.std.specs.Prelude.{◌≡◌};
 ghost use Rattle.paths.specs.Again.{first_read};
 ghost use Rattle.routes.specs.Table.{RouteRead};

@@ -4,7 +4,7 @@
 ghost use Rattle.std.specs.Prelude.{◌≡◌};
 ghost use Rattle.words.specs.Words.{blank, word_from, spelling, same, spelled_number, layer_of, layer_digits};
 
-// A word: its bytes, the place of the first, and the place after it. Where no word is left, it has no bytes and stands at the text's end.
+// A word: its bytes, the place of the first, and the place after it. Where no word is left, it has no bytes and stands at the text's end: no Option, since a reader asks what a word spells, no word of the form has no bytes, and 17 wants its place all the same.
 #[derive(Clone, Copy)]
 pub struct Word<'a> {
     pub bytes: &'a [u8],
