@@ -68,6 +68,22 @@ pub lowest_at_within : (nodes : List Node) (x y : ℕ) → known_at nodes x y �
 unfolding known_at lowest_at
 lowest_at_within nodes x y k = (lowest-passes (length nodes) _ k).0
 
+-- what the searches for a point found
+module _ (nodes : List Node) (p : Point) {found : Option ℕ} where
+  module _ (e : found ≡ cond (known_at nodes p.x p.y) (Some (lowest_at nodes p.x p.y)) None) where
+    pub via_held : {n : ℕ} → found ≡ Some n → (known_at nodes p.x p.y ≡ true) × (n ≡ lowest_at nodes p.x p.y) × (n < length nodes)
+    via_held h = let v = some_held (known_at nodes p.x p.y) (lowest_at nodes p.x p.y) e h in (v.0, v.1, rw v.1 (lowest_at_within nodes p.x p.y v.0))
+
+    pub no_via : found ≡ None → known_at nodes p.x p.y ≡ false
+    no_via h = none_held (known_at nodes p.x p.y) (lowest_at nodes p.x p.y) e h
+
+  module _ (e : found ≡ cond (known nodes p.x p.y p.layer) (Some (number_on nodes p.x p.y p.layer)) None) where
+    pub node_held : {n : ℕ} → found ≡ Some n → (known nodes p.x p.y p.layer ≡ true) × (n ≡ number_on nodes p.x p.y p.layer)
+    node_held h = some_held (known nodes p.x p.y p.layer) (number_on nodes p.x p.y p.layer) e h
+
+    pub no_node_held : found ≡ None → known nodes p.x p.y p.layer ≡ false
+    no_node_held h = none_held (known nodes p.x p.y p.layer) (number_on nodes p.x p.y p.layer) e h
+
 -- a path's first point is known, or unknown on every layer, by the lowest number
 module _ (found : List Node) (x y : ℕ) {i : ℕ} (v : i ≡ lowest_at found x y) where
   pub known-at : i < length found → known_at found x y ≡ true

@@ -189,6 +189,12 @@ digits-two_other (a ∷ b ∷ []) e n =
     rw z
 digits-two_other (a ∷ b ∷ c ∷ l) e n = absurd (omega arith)
 
+pub digits_other : (l : List ℕ) → (length l ≡ 1 → 49 ≤ get_or l 0 0 → get_or l 0 0 ≤ 57 → ⊥) → (length l ≡ 2 → get_or l 0 0 ≡ 49 → 48 ≤ get_or l 1 0 → get_or l 1 0 ≤ 54 → ⊥) → None ≡ layer_digits l
+digits_other [] n m = digits-none [] (λ e. omega arith) (λ e. omega arith)
+digits_other (a ∷ []) n m = digits-one_other (a ∷ []) refl (n refl)
+digits_other (a ∷ b ∷ []) n m = digits-two_other (a ∷ b ∷ []) refl (m refl)
+digits_other (a ∷ b ∷ c ∷ l) n m = digits-none (a ∷ b ∷ c ∷ l) (λ e. omega arith) (λ e. omega arith)
+
 -- a layer: one or two digits behind `metal`
 module _ (text : List ℕ) (w : Span) (h : w.at ≤ w.next) (k : w.next ≤ length text) where
   pub layer-none : (w.next - w.at ≡ 6 → ⊥) → (w.next - w.at ≡ 7 → ⊥) → None ≡ layer_of (spelling text w)

