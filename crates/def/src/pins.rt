@@ -1,4 +1,4 @@
-// Pins: 19, and the flags they give to nodes. `as u64`: std has no From of usize.
+// Pins: 19, and the flags they give to nodes. `as` stays: std has no From of usize.
 ghost use Rattle.std.specs.Prelude.{◌≡◌, true, ℕ, ◌+◌, ◌*◌, ◌≤◌, length, get_or, OnOk};
 ghost use Rattle.net.specs.Layout.{most_nodes};
 ghost use Rattle.net.specs.Numbers.{checked};

@@ -1,5 +1,5 @@
 // The route read point by point: 17, 18 and its nodes. Functions on the text and a place in it: document 01 names the form.
-// `as u64`: std has no From of usize; `as u8` is proved to fit, where try_from would add a branch that gives up.
+// `as` stays: std has no From of usize, and where a number gets narrower it is proved to fit, and try_from would add a branch that gives up.
 ghost use Rattle.std.specs.Prelude.{◌≡◌, cond, List, ◌∷◌, is_some, is_none, length};
 ghost use Rattle.paths.specs.Again.{first_read};
 ghost use Rattle.paths.specs.Form.{points_of};
