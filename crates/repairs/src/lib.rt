@@ -3,6 +3,8 @@
 
 ghost use Rattle.std.specs.Prelude.{◌≡◌};
 ghost use Rattle.net.specs.Layout.{newest};
+ghost use Rattle.net.specs.Refusal.{none, net_refusal};
+ghost use Rattle.net.specs.Stage.{stage_of};
 ghost use Rattle.net.specs.AcceptedNet.{stage_of_net};
 ghost use Rattle.net.specs.Numbers.{answered};
 ghost use Rattle.repairs.specs.Promise.{Judged, Repaired};
@@ -28,32 +30,34 @@ pub fn repair(stage: u32, limit: u32, file: &[u8], out: &mut [u8]) -> Result<u64
     repair_version(net, stage as u8, u64::from(limit), out)
 }
 
-// Repair on a net of any version: the passes see its obstacles in the form of the newest one.
+// Repair on a net of any version: the passes see its obstacles in the form of the newest one. A net that has that form pays for no room.
 fn repair_version(net: Net, stage: u8, limit: u64, out: &mut [u8]) -> Result<u64, Refusal>
     ensures { Judged (stage_of_net net.entry stage) limit out.old out.new (answered result) }
 {
-    let Net {
-        version,
-        nodes,
-        wires,
-        obstacles,
-    } = net;
-    if is_prepared(version, obstacles) {
-        let newest = Net {
-            version: NEWEST_VERSION,
-            nodes,
-            wires,
-            obstacles,
-        };
-        return repair_net(newest, stage, limit, out);
+    if is_prepared(net.version, net.obstacles) {
+        return repair_prepared(net, net.obstacles, stage, limit, out);
     }
     let mut room = [0; PREPARED_BYTES];
-    let end = prepare(version, obstacles, &mut room);
+    let end = prepare(net.version, net.obstacles, &mut room);
+    repair_prepared(net, &room[..end], stage, limit, out)
+}
+
+// Repair on a net in the newest version: its nodes and wires, with its obstacles in that form.
+fn repair_prepared(
+    net: Net,
+    obstacles: &[u8],
+    stage: u8,
+    limit: u64,
+    out: &mut [u8],
+) -> Result<u64, Refusal>
+    requires { net_refusal newest net.nodes.now net.wires.now obstacles.now ≡ none }
+    ensures { Judged (stage_of newest net.entry.nodes.now net.entry.wires.now obstacles.now stage) limit out.old out.new (answered result) }
+{
     let newest = Net {
         version: NEWEST_VERSION,
-        nodes,
-        wires,
-        obstacles: &room[..end],
+        nodes: net.nodes,
+        wires: net.wires,
+        obstacles,
     };
     repair_net(newest, stage, limit, out)
 }
