@@ -3,6 +3,7 @@ ghost use Rattle.std.specs.Prelude.{◌≡◌, false, ℕ, ◌<◌, ◌≤◌, l
 ghost use Rattle.net.specs.Net.{node_count};
 ghost use Rattle.clusters.specs.FirstPasses.{Falling, source_in, gate_of, gathered};
 
+use crate::marks::mark_components;
 use net::fields::{is_gate, is_source, node_at, node_count};
 
 // Which components have a source.
@@ -11,13 +12,12 @@ pub fn mark_sources(nodes: &[u8], component: &[usize], sourced: &mut [bool])
     requires falling { Falling (node_count nodes.now) component.now }
     ensures { (k : ℕ) → k < node_count nodes.now → get_or sourced.new k false ≡ source_in nodes.now component.now (node_count nodes.now) k }
 {
-    for i in 0..node_count(nodes) {
-        // no node below i is in component i: the lowest node of a component is no higher than its nodes
-        sourced[i] = false;
-        if is_source(node_at(nodes, i).flags) {
-            sourced[component[i]] = true;
-        }
-    }
+    mark_components(
+        node_count(nodes),
+        component,
+        |i| is_source(node_at(nodes, i).flags),
+        sourced,
+    );
 }
 
 // 1 if node i is a gate whose component has no source, else 0.

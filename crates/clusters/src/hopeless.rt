@@ -3,15 +3,8 @@ ghost use Rattle.std.specs.Prelude.{◌≡◌, false, ℕ, ◌<◌, ◌≤◌, l
 ghost use Rattle.clusters.specs.FirstPasses.{Falling};
 ghost use Rattle.clusters.specs.Hopeless.{hopeless_at, any_hopeless, hopeless_in};
 
+use crate::marks::mark_components;
 use crate::work::Clusters;
-
-// Cluster r is hopeless. A cluster without such a gate may weigh anything.
-fn is_hopeless<const N: usize>(c: &Clusters<N>, limit: u64, r: usize) -> bool
-    requires { r < N }
-    ensures { result ≡ hopeless_at c.now.fixed c.now.gates limit r }
-{
-    0 < c.gates[r] && limit < c.fixed[r]
-}
 
 // Marks the components that have a hopeless cluster, each at its lowest node, and answers whether there is one.
 pub fn find_hopeless<const N: usize>(c: &Clusters<N>, limit: u64, hopeless: &mut [bool]) -> bool
@@ -20,14 +13,14 @@ pub fn find_hopeless<const N: usize>(c: &Clusters<N>, limit: u64, hopeless: &mut
     ensures { (result ≡ any_hopeless c.now.n c.now.fixed c.now.gates limit)
         × ((k : ℕ) → k < c.now.n → get_or hopeless.new k false ≡ hopeless_in c.now.n c.now.component c.now.fixed c.now.gates limit k) }
 {
-    let mut some = false;
-    for r in 0..c.n {
-        // no cluster below r is in component r: the lowest node of a component is no higher than its nodes
-        hopeless[r] = false;
-        if is_hopeless(c, limit, r) {
-            hopeless[c.component[r]] = true;
-            some = true;
-        }
-    }
-    some
+    mark_components(
+        c.n,
+        &c.component,
+        // cluster r is hopeless; one without such a gate may weigh anything
+        |r| -> bool
+            requires { r < N }
+            ensures { result ≡ hopeless_at c.entry.now.fixed c.entry.now.gates limit r }
+        { 0 < c.gates[r] && limit < c.fixed[r] },
+        hopeless,
+    )
 }

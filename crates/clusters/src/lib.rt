@@ -5,6 +5,7 @@ pub mod cuttable;
 pub mod first_passes;
 pub mod gates;
 pub mod hopeless;
+mod marks;
 pub mod roots;
 pub mod stretch;
 pub mod weights;
