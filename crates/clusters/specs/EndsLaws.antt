@@ -24,6 +24,10 @@ checked w i p q =
       straight = w.straight i p q;
     }
 
+-- a wire that is present, ready to be searched
+pub checked_present : {ns ws : List ℕ} → Wired ns ws → (k i : ℕ) → i < node_count ns → is_present ws k i ≡ true → Checked ns ws i
+checked_present {ns} {ws} w k i p h = checked w i (is_present-positive ws k i h) p
+
 -- where there is no lowest one, there is no highest
 pub none-highest : (s : Stage) (i : ℕ) → LowestFree s i 0 → HighestFree s i 0
 none-highest s i l = record { free = λ h. absurd (lt_irrefl 0 h); most = λ t f. absurd (lt_irrefl 0 (l.some t f)) }

@@ -1,7 +1,7 @@
 -- The positions in the work arrays as numbers: 0 where a wire cannot be cut, and where it has no jumper of its own.
 -- Assumes nothing.
 use Rattle.std.specs.Prelude.{ℕ, ◌<◌, ◌≡◌, ◌≢◌, true, false, Option, None, Some, is_some, List, length, get_or, map}
-use Rattle.std.proofs.Common.{refl, sym, ◌∙◌, arith}
+use Rattle.std.proofs.Common.{refl, sym, ◌∙◌, ap, arith}
 use Rattle.std.proofs.lemmas.List.{get_or-map}
 use Rattle.clusters.specs.declared.work.Cuttable.{Cuttable}
 use Rattle.clusters.specs.declared.work.Jumper.{Jumper}
@@ -36,6 +36,16 @@ hi_at cuttable i d p = get_or-map hi_of cuttable i d 0 p
 
 pub position_at : (jumpers : List (Option Jumper)) (i : ℕ) (d : Option Jumper) → i < length jumpers → get_or (positions jumpers) i 0 ≡ position_of (get_or jumpers i d)
 position_at jumpers i d p = get_or-map position_of jumpers i d 0 p
+
+-- the same of an entry that was matched
+pub lo_is : (cuttable : List (Option Cuttable)) (i : ℕ) (d : Option Cuttable) {o : Option Cuttable} → get_or cuttable i d ≡ o → i < length cuttable → get_or (los cuttable) i 0 ≡ lo_of o
+lo_is cuttable i d e p = lo_at cuttable i d p ∙ ap lo_of e
+
+pub hi_is : (cuttable : List (Option Cuttable)) (i : ℕ) (d : Option Cuttable) {o : Option Cuttable} → get_or cuttable i d ≡ o → i < length cuttable → get_or (his cuttable) i 0 ≡ hi_of o
+hi_is cuttable i d e p = hi_at cuttable i d p ∙ ap hi_of e
+
+pub position_is : (jumpers : List (Option Jumper)) (i : ℕ) (d : Option Jumper) {o : Option Jumper} → get_or jumpers i d ≡ o → i < length jumpers → get_or (positions jumpers) i 0 ≡ position_of o
+position_is jumpers i d e p = position_at jumpers i d p ∙ ap position_of e
 
 -- where there is none the number is 0, and else above 0
 lo_none : (o : Option Cuttable) → is_some o ≡ false → lo_of o ≡ 0

@@ -1,6 +1,6 @@
 -- The weights that wires give to clusters: how large they are, and one turn of the pass that adds them up.
 -- Assumes nothing.
-use Rattle.std.specs.Prelude.{ℕ, ◌+◌, ◌-◌, ◌*◌, ◌≤◌, ◌<◌, ◌≡◌, List, length, get_or, set}
+use Rattle.std.specs.Prelude.{ℕ, ◌+◌, ◌-◌, ◌*◌, ◌^◌, ◌≤◌, ◌<◌, ◌≡◌, List, length, get_or, set}
 use Rattle.std.proofs.Common.{arith, mul-le-mul, length-set, ltb-true}
 use Rattle.laws.specs.Lists.{set-add}
 use Rattle.laws.specs.Numbers.{Bytes}
@@ -87,3 +87,29 @@ module _ (i : ℕ) (a b : List ℕ) (x y : ℕ → ℕ) (l : List ℕ) (p : i < 
         let v = gathered-bound (i + 1) m a x sx (get_or b i 0) in
         let w = gathered-bound i m b y (λ j t. sy j (omega arith)) (get_or b i 0) in
         omega arith
+
+-- one turn of weighing the wires of a net: each addition fits
+module _
+    (ns ws lo hi root host : List ℕ) (k : ℕ) (w : Wired ns ws) (nodes : Bytes ns) (wires : Bytes ws) (inside : EndsInside ns ws lo hi) (fr : Falling (node_count ns) root) (fh : Falling (node_count ns) host)
+    (i : ℕ) (p : i < node_count ns) (l : List ℕ) (stored : i < length l) (h : (r : ℕ) → r < i → get_or l r 0 ≡ gathered i root (lower_weight ns ws k lo) r + gathered i host (upper_weight ns ws lo hi) r) where
+  abbrev x : ℕ → ℕ
+  x = lower_weight ns ws k lo
+
+  abbrev y : ℕ → ℕ
+  y = upper_weight ns ws lo hi
+
+  small_x : (j : ℕ) → j < i + 1 → x j ≤ wire_weight_bound
+  small_x j q = lower-small ns ws lo hi k w nodes wires inside j (omega arith)
+
+  small_y : (j : ℕ) → j < i + 1 → y j ≤ wire_weight_bound
+  small_y j q = upper-small ns ws lo hi k w nodes wires inside j (omega arith)
+
+  pub lower-fits : get_or (set l i 0) (get_or root i 0) 0 + x i < 2 ^ 64
+  lower-fits =
+      let b = before-first i root host x y l stored (λ j q. fr j (omega arith)) (λ j q. fh j (omega arith)) h wire_weight_bound small_x small_y in
+      omega (arith, w.few, small_x i (omega arith))
+
+  pub upper-fits : get_or (set (set l i 0) (get_or root i 0) (get_or (set l i 0) (get_or root i 0) 0 + x i)) (get_or host i 0) 0 + y i < 2 ^ 64
+  upper-fits =
+      let b = before-second i root host x y l stored (λ j q. fr j (omega arith)) (λ j q. fh j (omega arith)) h wire_weight_bound small_x small_y in
+      omega (arith, w.few, small_y i (omega arith))

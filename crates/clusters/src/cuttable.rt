@@ -1,4 +1,6 @@
 // The points of each wire that may be cut: its lowest and its highest position that is inside the wire, on a present wire, and not barred.
+// Sections, with `Wired nodes wires` and `i < node_count nodes`: any net that is wired will do, and a `Net` would ask more of callers.
+// The array that is written is lent alone: with the others in one struct, the contract would have to say of each that it stays, no plainer.
 ghost use Rattle.std.specs.Prelude.{◌<◌, ◌≤◌, length};
 ghost use Rattle.net.specs.Layout.{newest};
 ghost use Rattle.net.specs.Net.{node_count};

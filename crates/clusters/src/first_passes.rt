@@ -1,4 +1,5 @@
 // The first passes of repair in order: the points of each wire that may be cut, clusters and components, and what no cut parts from a cluster.
+// Sections, with `Wired nodes wires`: any net that is wired will do, and a `Net` would ask more of callers.
 ghost use Rattle.std.specs.Prelude.{◌≤◌};
 ghost use Rattle.net.specs.Net.{node_count};
 ghost use Rattle.clusters.specs.FirstPasses.{Wired, Clustered};

@@ -1,4 +1,5 @@
 // The gates of each cluster that a piece may harm: those of components without a source.
+// `component`, `root`, `sourced` and `gates` are lent one by one, one written while others are read: with all in one struct, each contract would have to say which of them stay, no plainer. No heap, fixed memory.
 ghost use Rattle.std.specs.Prelude.{◌≡◌, false, ℕ, ◌<◌, ◌≤◌, length, get_or};
 ghost use Rattle.net.specs.Net.{node_count};
 ghost use Rattle.clusters.specs.FirstPasses.{Falling, source_in, gate_of, gathered};

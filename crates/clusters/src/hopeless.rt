@@ -1,4 +1,5 @@
 // The test for 15: a cluster is hopeless if it has a gate that a piece may harm, and fixed weight over the limit. It needs what the first passes left, and nothing else.
+// `hopeless` is an array beside those of the first passes: only this test writes it.
 ghost use Rattle.std.specs.Prelude.{◌≡◌, false, ℕ, ◌<◌, ◌≤◌, length, get_or};
 ghost use Rattle.clusters.specs.FirstPasses.{Falling};
 ghost use Rattle.clusters.specs.Hopeless.{hopeless_at, any_hopeless, hopeless_in};

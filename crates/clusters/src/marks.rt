@@ -1,4 +1,5 @@
 // Components by a property of their nodes, or of the clusters in them, which have the number of their root.
+// `component` and `marks` are lent alone: the marks are of another array at each call.
 ghost use Rattle.std.specs.Prelude.{◌≡◌, Bool, false, ℕ, ◌<◌, ◌≤◌, length, get_or};
 ghost use Rattle.laws.specs.Sum.{any};
 ghost use Rattle.clusters.specs.FirstPasses.{Falling, marked};

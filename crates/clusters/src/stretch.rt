@@ -1,4 +1,5 @@
 // The weight of a wire from one position to another.
+// `wire_bytes * i ≤ length wires`: any section that holds wire i will do, and a `Net` would ask more of callers.
 ghost use Rattle.std.specs.Prelude.{◌≡◌, ◌*◌, ◌<◌, ◌≤◌, length};
 ghost use Rattle.net.specs.Layout.{wire_bytes};
 ghost use Rattle.net.specs.Limits.{length_bound, factor_bound, wire_weight_bound};

@@ -32,7 +32,7 @@ pub struct Clusters<const N: usize> {
     pub component: [usize; N],
     // whether the component with that lowest node has a source
     pub sourced: [bool; N],
-    // for each root, the weight that no cut takes away and the gates that a piece may harm; 0 elsewhere
+    // for each root, the weight that no cut takes away and the gates that a piece may harm: sums, so 0 elsewhere, the sum of nothing
     pub fixed: [u64; N],
     pub gates: [u64; N],
 }

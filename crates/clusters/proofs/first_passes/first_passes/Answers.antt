@@ -1,38 +1,28 @@
 -- `clusters::first_passes::first_passes` meets its contract: each pass has what it requires from those before, and together they fit the net. Assumes nothing.
 use Rattle.std.proofs.Common.{arith}
 use Rattle.laws.specs.Numbers.{Bytes}
-use Rattle.clusters.specs.Positions.{los, his}
 use Rattle.clusters.specs.Turns.{roots_fall, components_fall}
 use Rattle.clusters.specs.EndsLaws.{inside_of, first-none}
 use Rattle.clusters.specs.FitsLaws.{hosts-falling, clustered_of}
 use Rattle.clusters.proofs.first_passes.first_passes.Goals as goal
 
 pub find_hosts-requires-clause-lo_value : goal.find_hosts-requires-clause-lo_value
-find_hosts-requires-clause-lo_value g c =
-    let a = c.args in
-    first-none a.nodes.now a.wires.now a.obstacles.now a.stage (los c.find_cuttable.new.cuttable) (his c.find_cuttable.new.cuttable) c.find_cuttable.ensures c.requires.wired.some
+find_hosts-requires-clause-lo_value g c = first-none _ _ _ _ _ _ c.find_cuttable.ensures c.requires.wired.some
 
 pub mark_sources-requires-clause-falling : goal.mark_sources-requires-clause-falling
-mark_sources-requires-clause-falling g c =
-    let a = c.args in
-    components_fall c.requires.wired a.stage c.find_components.new.component c.find_components.ensures
+mark_sources-requires-clause-falling g c = components_fall c.requires.wired _ _ c.find_components.ensures
 
 pub count_gates-requires-clause-falling : goal.count_gates-requires-clause-falling
-count_gates-requires-clause-falling g c =
-    let a = c.args in
-    (roots_fall c.requires.wired a.stage (los c.find_cuttable.new.cuttable) c.find_roots.new.root c.find_roots.ensures, components_fall c.requires.wired a.stage c.find_components.new.component c.find_components.ensures)
+count_gates-requires-clause-falling g c = (roots_fall c.requires.wired _ _ _ c.find_roots.ensures, components_fall c.requires.wired _ _ c.find_components.ensures)
 
 pub weigh_clusters-requires-clause-wired : goal.weigh_clusters-requires-clause-wired
-weigh_clusters-requires-clause-wired g c =
-    let a = c.args in
-    (c.requires.wired, inside_of a.nodes.now a.wires.now a.obstacles.now a.stage (los c.find_cuttable.new.cuttable) (his c.find_cuttable.new.cuttable) c.find_cuttable.ensures)
+weigh_clusters-requires-clause-wired g c = (c.requires.wired, inside_of _ _ _ _ _ _ c.find_cuttable.ensures)
 
 pub weigh_clusters-requires-clause-falling : goal.weigh_clusters-requires-clause-falling
 weigh_clusters-requires-clause-falling g c =
-    let a = c.args in
-    let roots = roots_fall c.requires.wired a.stage (los c.find_cuttable.new.cuttable) c.find_roots.new.root c.find_roots.ensures in
-    let inside = inside_of a.nodes.now a.wires.now a.obstacles.now a.stage (los c.find_cuttable.new.cuttable) (his c.find_cuttable.new.cuttable) c.find_cuttable.ensures in
-    (roots, hosts-falling c.requires.wired (los c.find_cuttable.new.cuttable) c.find_roots.new.root c.find_hosts.new.host inside.wire roots c.find_hosts.ensures)
+    let roots = roots_fall c.requires.wired _ _ _ c.find_roots.ensures in
+    let inside = inside_of _ _ _ _ _ _ c.find_cuttable.ensures in
+    (roots, hosts-falling c.requires.wired _ _ _ inside.wire roots c.find_hosts.ensures)
 
 pub returns : goal.returns
 returns g c =

@@ -1,8 +1,8 @@
 -- `clusters::weights::lower_weight` meets its contract. Assumes nothing.
-use Rattle.std.proofs.Common.{◌≤◌, sym, ◌∙◌, ap, arith}
+use Rattle.std.proofs.Common.{◌≤◌, sym, ◌∙◌, arith}
 use Rattle.laws.specs.Numbers.{Bytes}
 use Rattle.net.specs.Limits.{length_bound}
-use Rattle.clusters.specs.Positions.{lo_of, lo_at}
+use Rattle.clusters.specs.Positions.{lo_is}
 use Rattle.clusters.specs.Turns.{is_present-positive}
 use Rattle.clusters.specs.Weights.{product_small, length-≤}
 use Rattle.clusters.proofs.weights.lower_weight.Goals as goal
@@ -18,7 +18,7 @@ overflow_mul-result c =
     elim c.match-cuttable-i.branch [
       | in-Some w ↦
           let e = w.in-Some.e in
-          let at = lo_at a.cuttable.now a.i _ c.requires.wired.2 ∙ ap lo_of w.in-Some.is in
+          let at = lo_is _ _ _ w.in-Some.is c.requires.wired.2 in
           omega (arith, w.length-is, e.positive, c.requires.i_bound (omega (arith, at, e.positive)))
       | in-None w ↦ omega (arith, w.length-is, w.length_of-length.ensures.0)
     ] in
