@@ -17,11 +17,11 @@ use Rattle.counting.specs.declared.work.Branches.{Branches}
 use Rattle.counting.specs.Optional.{flags, weights}
 use Rattle.counting.specs.Climb.{open_at}
 
--- the clusters of the work arrays: every wire counts as made
-unfoldable pub work_clusters : List ℕ → List ℕ → List ℕ → {N : ℕ} → work.Clusters N → Clusters
-work_clusters ns ws os c =
+-- m clusters of the work arrays: every wire counts as made
+abbrev pub work_of : List ℕ → List ℕ → List ℕ → {N : ℕ} → work.Clusters N → ℕ → Clusters
+work_of ns ws os c m =
     record {
-      nodes = c.n;
+      nodes = m;
       cuttable = λ i. ltb 0 (get_or (los c.cuttable) i 0);
       lo = λ i. get_or (los c.cuttable) i 0;
       hi = λ i. get_or (his c.cuttable) i 0;
@@ -31,6 +31,10 @@ work_clusters ns ws os c =
       fixed = λ r. get_or c.fixed r 0;
       gates = λ r. get_or c.gates r 0;
     }
+
+-- all of them
+unfoldable pub work_clusters : List ℕ → List ℕ → List ℕ → {N : ℕ} → work.Clusters N → Clusters
+work_clusters ns ws os c = work_of ns ws os c c.n
 
 -- what the passes before have established
 pub record Ready (ns ws os : List ℕ) {N : ℕ} (c : work.Clusters N) : Type 0 where

@@ -39,7 +39,7 @@ use Rattle.clusters.specs.HopelessLaws.{some-hopeless}
 use Rattle.counting.specs.Climb.{open_at}
 use Rattle.counting.specs.declared.work.Counts.{Counts}
 use Rattle.counting.specs.Optional.{flags, weights}
-use Rattle.counting.specs.Count.{work_clusters, Ready, found, CountedAll, root_sum}
+use Rattle.counting.specs.Count.{work_of, work_clusters, Ready, found, CountedAll, root_sum}
 use Rattle.choice.specs.Choose.{cut_here, any_here, Chooses, Choosable}
 use Rattle.choice.specs.ChooseLaws.{chooses_more, chosen_of}
 use Rattle.repairs.specs.Promise.{Judged, no_legal_set, too_short, done}
@@ -103,23 +103,9 @@ module _ (ns ws os : List ℕ) (k : ℕ) (right : NetRight newest ns ws os) {N :
   is_formed : Formed (stage_of newest ns ws os k)
   is_formed = formed newest ns ws os right k
 
-  -- the clusters of the net, and those of the work arrays, of m nodes
+  -- the clusters of the net
   abbrev net : cuts.Clusters
   net = clusters_of (stage_of newest ns ws os k) (los c.cuttable) (his c.cuttable) c.host c.fixed c.gates
-
-  abbrev work : ℕ → cuts.Clusters
-  work m =
-      record {
-        nodes = m;
-        cuttable = λ i. ltb 0 (get_or (los c.cuttable) i 0);
-        lo = λ i. get_or (los c.cuttable) i 0;
-        hi = λ i. get_or (his c.cuttable) i 0;
-        free = λ i t. open_at ns ws os i t;
-        factor = λ i. wire_factor ws i;
-        host = λ i. get_or c.host i 0;
-        fixed = λ r. get_or c.fixed r 0;
-        gates = λ r. get_or c.gates r 0;
-      }
 
   -- a cuttable wire is present, so its free points are its open ones
   same-free : (j t : ℕ) → j < node_count ns → ltb 0 (get_or (los c.cuttable) j 0) ≡ true → free_at (stage_of newest ns ws os k) j t ≡ open_at ns ws os j t
@@ -132,7 +118,7 @@ module _ (ns ws os : List ℕ) (k : ℕ) (right : NetRight newest ns ws os) {N :
 
   sound_work : Sound (work_clusters ns ws os c)
   unfolding work_clusters clusters_of stage_of
-  sound_work = subst (λ m. Sound (work m)) (sym first.n_is) (sound-free (work (node_count ns)) (λ i t. free_at (stage_of newest ns ws os k) i t) same-free is_sound)
+  sound_work = subst (λ m. Sound (work_of ns ws os c m)) (sym first.n_is) (sound-free (work_of ns ws os c (node_count ns)) (λ i t. free_at (stage_of newest ns ws os k) i t) same-free is_sound)
 
   -- what the pass down requires
   pub ready_of : Ready ns ws os c
@@ -141,7 +127,7 @@ module _ (ns ws os : List ℕ) (k : ℕ) (right : NetRight newest ns ws os) {N :
       record {
         sound = sound_work;
         few = omega (arith, first.n_is, right.sized.few_nodes);
-        light = subst (λ m. all_weight (work m) < weight_bound) (sym first.n_is) first.light;
+        light = subst (λ m. all_weight (work_of ns ws os c m) < weight_bound) (sym first.n_is) first.light;
         checked = λ j p q. checked_of right j p (omega (arith, first.n_is));
         factor = λ j p q. (right.wire j p (omega (arith, first.n_is))).factor_low;
       }
@@ -160,7 +146,7 @@ module _ (ns ws os : List ℕ) (k : ℕ) (right : NetRight newest ns ws os) {N :
     counted : Counted net limit down 0
     unfolding work_clusters clusters_of stage_of
     counted =
-        counted-free (work (node_count ns)) (λ i t. free_at (stage_of newest ns ws os k) i t) same-free (subst (λ m. Counted (work m) limit down 0) first.n_is worked.counted.counted)
+        counted-free (work_of ns ws os c (node_count ns)) (λ i t. free_at (stage_of newest ns ws os k) i t) same-free (subst (λ m. Counted (work_of ns ws os c m) limit down 0) first.n_is worked.counted.counted)
 
     weight-light : (r : ℕ) → r < node_count ns → get_or d.any_weight r 0 < weight_bound
     unfolding clusters_of stage_of down_of
