@@ -6,7 +6,10 @@ use Rattle.std.proofs.Common.{arith, mul-le-mul_left}
 use Rattle.std.proofs.Math.Nat.{mul-div-le, lt-mul-div-succ, lt_of_mul-lt-mul_left}
 use borrow.Author.Tests.{leb-true, ltb-true, le-leb, lt-ltb, lt-leb, not-true}
 use Rattle.laws.specs.Sums.{by, no_both, and_left, and_right}
+use Rattle.laws.specs.Numbers.{Bytes}
 use Rattle.net.specs.Layout.{newest}
+use Rattle.net.specs.Limits.{length_bound}
+use Rattle.points.specs.Geometry.{length-small}
 use Rattle.net.specs.Net.{wire_factor, wire_length, barred}
 use Rattle.points.specs.Cuttable.{Highest}
 use Rattle.cuts.specs.Passes.{without-gate, within_limit, with-jumper}
@@ -35,6 +38,10 @@ module _ (ns ws os : List ℕ) (i : ℕ) where
   pub open_if : (t : ℕ) → 1 ≤ t → t < wire_length ns ws i → barred newest ns ws os i t ≡ false → open_at ns ws os i t ≡ true
   unfolding open_at
   open_if t a b c = rw (le-leb 1 t a, lt-ltb t (wire_length ns ws i) b, c)
+
+-- so the highest one is below each length
+pub hi-short : {ns ws os : List ℕ} {i lo hi : ℕ} → Bytes ns → Branch ns ws os i lo hi → hi < length_bound
+hi-short {ns} {ws} {os} {i} {lo} {hi} bytes b = let high = open_high ns ws os i hi b.hi_open in omega (arith, length-small ns ws i bytes b.checked)
 
 -- so many steps of one factor are within a number
 steps-within : (x f k : ℕ) → 0 < f → k ≤ x / f → f * k ≤ x

@@ -1,6 +1,6 @@
 -- A turn of the pass down over the work arrays: what its calls require, and that what they establish is a turn.
 -- Assumes nothing.
-use Rattle.std.specs.Prelude.{ℕ, ◌+◌, ◌<◌, ◌≡◌, refl, ◌≢◌, Bool, true, cond, Option, List, length, get_or, set, eqb, ltb, is_some, unwrap_or}
+use Rattle.std.specs.Prelude.{ℕ, ◌+◌, ◌<◌, ◌≡◌, refl, ◌≢◌, Bool, true, cond, Option, None, List, length, get_or, set, eqb, ltb, is_some, unwrap_or}
 use Rattle.std.proofs.Common.{◌∙◌, ap}
 use Rattle.std.proofs.Math.Bool.{false}
 use native.Mathlib.Omega.{arith}
@@ -203,6 +203,79 @@ module _ (ns ws os : List ℕ) {N : ℕ} (c : work.Clusters N) (ready : Ready ns
           ungated_ok = put w.ungated_ok r (ungated_ok x.options);
           ungated_weight = put w.ungated_weight r (ungated_weight x.options);
           counted = counted_step (work_clusters ns ws os c) limit old new ready.sound r turn w.counted;
+        }
+
+  -- the same where r is no branch: nothing is climbed
+  module _
+      (limit r : ℕ) (inside : r < c.n) (k : Counts N) (b : Branches N) (cut_any : List Bool) (x : Closing)
+      (closes : Closes c.n (los c.cuttable) c.host b.count b.lightest (flags k.ungated) (weights k.ungated) k.cut_any cut_any (cluster_at c.fixed c.gates r) limit x)
+      (fewest : r < length k.fewest) (any_ok_in : r < length k.any_ok) (any_weight_in : r < length k.any_weight) (near : r < length k.near)
+      (w : CountedFrom (work_clusters ns ws os c) limit k b (r + 1)) (root : get_or (los c.cuttable) r 0 ≡ 0) where
+    abbrev pub root_after : Counts N
+    root_after =
+        record {
+          cut_any = cut_any;
+          any_ok = set k.any_ok r (any_ok x.options);
+          any_weight = set k.any_weight r (any_weight x.options);
+          ungated = k.ungated;
+          near = set k.near r None;
+          fewest = set k.fewest r x.fewest;
+        }
+
+    at-root : Down
+    at-root = found root_after b (put w.ungated_ok r (ungated_ok x.options)) (put w.ungated_weight r (ungated_weight x.options))
+
+    same_root :
+        SameCluster (branches_of c.n (los c.cuttable) c.host (cluster_at c.fixed c.gates r)) (work_clusters ns ws os c) (closing_of cut_any b.count b.lightest (flags k.ungated) (weights k.ungated) x) at-root r
+    unfolding at-root work_clusters down_of
+    same_root =
+        record {
+          nodes = refl;
+          hang = λ j p. refl;
+          fixed = refl;
+          gates = refl;
+          cut_any = λ j p h. refl;
+          count = λ j p h. refl;
+          lightest = λ j p h. refl;
+          has_ungated = λ j p h. refl;
+          ungated = λ j p h. refl;
+          fewest = get_or-set_same k.fewest r x.fewest 0 fewest;
+          any_ok = get_or-set_same k.any_ok r (any_ok x.options) false any_ok_in;
+          any_weight = get_or-set_same k.any_weight r (any_weight x.options) 0 any_weight_in;
+          ungated_ok = put_same w.ungated_ok r (ungated_ok x.options);
+          ungated_weight = put_same w.ungated_weight r (ungated_weight x.options);
+        }
+
+    root-turn : Turn (work_clusters ns ws os c) limit (found k b w.ungated_ok w.ungated_weight) at-root r
+    unfolding at-root work_clusters down_of
+    root-turn =
+        record {
+          marks = closes.others;
+          others = λ j ne.
+              record {
+                fewest = get_or-set_other k.fewest r j x.fewest 0 ne;
+                any_ok = get_or-set_other k.any_ok r j (any_ok x.options) false ne;
+                any_weight = get_or-set_other k.any_weight r j (any_weight x.options) 0 ne;
+                ungated_ok = put_other w.ungated_ok r j (ungated_ok x.options) ne;
+                ungated_weight = put_other w.ungated_weight r j (ungated_weight x.options) ne;
+                count = refl;
+                lightest = refl;
+                has_ungated = refl;
+                ungated = refl;
+                near = mapped_other position_of k.near r j None 0 ne;
+              };
+          closed = closed_same same_root limit closes.closed;
+          climbed = λ l. let p = ltb-true 0 (get_or (los c.cuttable) r 0) l in absurd (native.Mathlib.Nat.lt_irrefl 0 (omega arith));
+          no_near = λ l. mapped_same position_of k.near r None 0 near;
+        }
+
+    pub counted_root : CountedFrom (work_clusters ns ws os c) limit root_after b r
+    unfolding at-root
+    counted_root =
+        record {
+          ungated_ok = put w.ungated_ok r (ungated_ok x.options);
+          ungated_weight = put w.ungated_weight r (ungated_weight x.options);
+          counted = counted_step (work_clusters ns ws os c) limit (found k b w.ungated_ok w.ungated_weight) at-root ready.sound r root-turn w.counted;
         }
 
   -- before the first turn

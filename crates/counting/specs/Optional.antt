@@ -18,6 +18,13 @@ flag_at xs j d p = get_or-map is_some xs j d false p
 pub number_at : (xs : List (Option ℕ)) (j : ℕ) (d : Option ℕ) → j < length xs → get_or (weights xs) j 0 ≡ unwrap_or (get_or xs j d) 0
 number_at xs j d p = get_or-map (λ (o : Option ℕ). unwrap_or o 0) xs j d 0 p
 
+-- the same of an entry that was matched
+pub flag_is : (xs : List (Option ℕ)) (j : ℕ) (d : Option ℕ) {o : Option ℕ} → get_or xs j d ≡ o → j < length xs → get_or (flags xs) j false ≡ is_some o
+flag_is xs j d e p = flag_at xs j d p ∙ ap is_some e
+
+pub number_is : (xs : List (Option ℕ)) (j : ℕ) (d : Option ℕ) {o : Option ℕ} → get_or xs j d ≡ o → j < length xs → get_or (weights xs) j 0 ≡ unwrap_or o 0
+number_is xs j d e p = number_at xs j d p ∙ ap (λ (o : Option ℕ). unwrap_or o 0) e
+
 -- an entry written, seen through a function
 pub mapped_same : {A B : Type 0} (f : A → B) (l : List A) (i : ℕ) (v : A) (d : B) → i < length l → get_or (map f (set l i v)) i d ≡ f v
 mapped_same {A = A} f l i v d p = ap (λ m. get_or m i d) (map-set f l i v) ∙ get_or-set_same (map f l) i (f v) d (omega (arith, length-map l f))

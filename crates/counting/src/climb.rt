@@ -1,8 +1,8 @@
 // Climbing a branch's wire in the pass down: what the branch then adds to its host, with a jumper of its own where it must.
+// `nodes, wires, obstacles, i`: the sections of any net that is wired; a `Net` would ask more of callers.
 ghost use Rattle.std.specs.Prelude.{◌+◌, ◌<◌, ◌≤◌};
-ghost use Rattle.clusters.specs.Positions.{lo_of, hi_of};
 ghost use Rattle.clusters.specs.Stretch.{stretch_weight};
-ghost use Rattle.counting.specs.Climb.{Branch, LastWithin, Climbs, ClimbsAt, Closable};
+ghost use Rattle.counting.specs.Climb.{Branch, LastWithin, Climbs, Closable};
 
 use crate::close::{Closing, Options};
 use clusters::stretch::{stretch_weight, weight_of_step};
@@ -34,6 +34,7 @@ fn last_within(
     ensures { LastWithin nodes.now wires.now obstacles.now i ends.lo ends.hi weight limit result.position }
 {
     let steps = (limit - weight) / weight_of_step(wires, i);
+    // below hi, so it fits: std has no From between u64 and u32, and try_from would add a branch that gives up
     let last = (u64::from(ends.lo) + steps) as u32;
     Jumper {
         position: highest_cuttable(nodes, wires, obstacles, i, last).unwrap(),
@@ -41,7 +42,7 @@ fn last_within(
 }
 
 // Climbs the wire of branch i, whose cluster is closed.
-fn climb(
+pub fn climb(
     nodes: &[u8],
     wires: &[u8],
     obstacles: &[u8],
@@ -87,31 +88,6 @@ fn climb(
                 ungated + span
             },
             ungated: Some(ungated + span),
-            near: None,
-        },
-    }
-}
-
-// Climbs wire i, if it has a point that may be cut.
-pub fn climb_at(
-    nodes: &[u8],
-    wires: &[u8],
-    obstacles: &[u8],
-    i: usize,
-    cuttable: Option<Cuttable>,
-    x: Closing,
-    limit: u64,
-) -> Climbing
-    requires branch { 0 < lo_of cuttable → Branch nodes.now wires.now obstacles.now i (lo_of cuttable) (hi_of cuttable) }
-    requires closable { Closable limit x }
-    ensures { ClimbsAt nodes.now wires.now obstacles.now i (lo_of cuttable) (hi_of cuttable) limit x result }
-{
-    match cuttable {
-        Some(ends) => climb(nodes, wires, obstacles, i, ends, x, limit),
-        None => Climbing {
-            count: 0,
-            lightest: 0,
-            ungated: None,
             near: None,
         },
     }

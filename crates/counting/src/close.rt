@@ -1,6 +1,7 @@
 // Closing a cluster in the pass down: the fewest points below it, and the weight that they leave.
 // A cluster has two options. The any-option cuts the heaviest branches until the weight is within the limit; it is not there if the fixed weight alone is over the limit.
 // The ungated option cuts every branch that cannot come without a gate, and may then weigh anything; it is not there if the cluster has a gate.
+// `HungAbove` is about the number r of a cluster, and `c`, `b`, `cut_any` and `r` are what was found before, what is found of branches, what is written, and that number: a struct of them would be made anew for each cluster, no plainer.
 ghost use Rattle.std.specs.Prelude.{◌≡◌, ◌+◌, ◌<◌, ◌≤◌, ◌^◌, get_or};
 ghost use Rattle.clusters.specs.Positions.{los};
 ghost use Rattle.counting.specs.Optional.{flags, weights};
@@ -96,6 +97,7 @@ fn heaviest<const N: usize>(
     ensures { HeaviestBranch c.now.n (los c.now.cuttable) c.now.host b.now.lightest cut_any.now r result }
 {
     let mut at = None;
+    // the weight of none is 0, which the test needs too: an Option of both would be opened at each branch, no plainer
     let mut weight = 0;
     for j in r + 1..c.n {
         if heavier(c, b, cut_any, r, weight, j) {

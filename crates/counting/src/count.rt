@@ -1,9 +1,10 @@
 // The pass down of repair: from high numbers to low, each cluster is closed and its wire climbed.
+// `nodes, wires, obstacles`: the sections of any net that is wired; a `Net` would ask more of callers.
 ghost use Rattle.std.specs.Prelude.{◌≡◌, false, ℕ, ◌<◌, ◌^◌, get_or};
 ghost use Rattle.clusters.specs.Positions.{los};
 ghost use Rattle.counting.specs.Count.{work_clusters, Ready, NoneHopeless, CountedFrom, CountedAll, root_sum};
 
-use crate::climb::climb_at;
+use crate::climb::climb;
 use crate::close::close;
 use crate::work::{Branches, Counts};
 use clusters::work::Clusters;
@@ -42,11 +43,15 @@ fn count_clusters<const N: usize>(
         k.fewest[r] = x.fewest;
         k.any_ok[r] = x.options.has_any();
         k.any_weight[r] = x.options.any_weight();
-        let y = climb_at(nodes, wires, obstacles, r, c.cuttable[r], x, limit);
-        b.count[r] = y.count;
-        b.lightest[r] = y.lightest;
-        k.ungated[r] = y.ungated;
-        k.near[r] = y.near;
+        if let Some(ends) = c.cuttable[r] {
+            let y = climb(nodes, wires, obstacles, r, ends, x, limit);
+            b.count[r] = y.count;
+            b.lightest[r] = y.lightest;
+            k.ungated[r] = y.ungated;
+            k.near[r] = y.near;
+        } else {
+            k.near[r] = None;
+        }
     }
 }
 

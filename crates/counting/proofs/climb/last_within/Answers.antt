@@ -1,33 +1,9 @@
 -- `counting::climb::last_within` meets its contract: the search begins at the last position that the limit allows, which lies inside the wire.
 -- Assumes nothing.
 use Rattle.std.proofs.Common.{ℕ, Option, None, Some, IsSome, IsSomeAnd, refl, arith}
-use Rattle.points.specs.Geometry.{length-small}
 use Rattle.counting.specs.Climb.{LastWithin}
 use Rattle.counting.specs.ClimbLaws.{open_high, steps-inside, last_within}
 use Rattle.counting.proofs.climb.last_within.Goals as goal
-
-pub weight_of_step-requires : goal.weight_of_step-requires
-weight_of_step-requires c = (c.requires.branch.checked.numbered, c.requires.branch.checked.stored)
-
-pub overflow_add-last : goal.overflow_add-last
-overflow_add-last c =
-    let a = c.args in
-    let b = c.requires.branch in
-    let e = c.weight_of_step.ensures.0 in
-    let inside = steps-inside a.nodes.now a.wires.now a.obstacles.now a.i a.ends.lo a.ends.hi a.weight a.limit b c.requires.weight_le_limit.0 c.requires.weight_le_limit.1 in
-    let high = open_high a.nodes.now a.wires.now a.obstacles.now a.i a.ends.hi b.hi_open in
-    let small = length-small a.nodes.now a.wires.now a.i (λ k. omega (arith, c.type_inv.nodes k)) b.checked in
-    rw e (omega arith)
-
-pub overflow_cast-last : goal.overflow_cast-last
-overflow_cast-last c =
-    let a = c.args in
-    let b = c.requires.branch in
-    let e = c.weight_of_step.ensures.0 in
-    let inside = steps-inside a.nodes.now a.wires.now a.obstacles.now a.i a.ends.lo a.ends.hi a.weight a.limit b c.requires.weight_le_limit.0 c.requires.weight_le_limit.1 in
-    let high = open_high a.nodes.now a.wires.now a.obstacles.now a.i a.ends.hi b.hi_open in
-    let small = length-small a.nodes.now a.wires.now a.i (λ k. omega (arith, c.type_inv.nodes k)) b.checked in
-    rw e (omega arith)
 
 pub highest_cuttable-requires : goal.highest_cuttable-requires
 highest_cuttable-requires c =
@@ -36,7 +12,6 @@ highest_cuttable-requires c =
     let e = c.weight_of_step.ensures.0 in
     let inside = steps-inside a.nodes.now a.wires.now a.obstacles.now a.i a.ends.lo a.ends.hi a.weight a.limit b c.requires.weight_le_limit.0 c.requires.weight_le_limit.1 in
     let high = open_high a.nodes.now a.wires.now a.obstacles.now a.i a.ends.hi b.hi_open in
-    let small = length-small a.nodes.now a.wires.now a.i (λ k. omega (arith, c.type_inv.nodes k)) b.checked in
     (b.checked, rw e (omega arith))
 
 is-some : (P : ℕ → Type 0) (r : Option ℕ) → IsSomeAnd r P → IsSome r

@@ -1,8 +1,8 @@
 -- `counting::close::sum_branches` meets its contract: the sums so far are those of the branches passed.
 -- Assumes nothing.
-use Rattle.std.proofs.Common.{ℕ, ◌<◌, Option, length, is_some, unwrap_or, sym, ◌∙◌, ap, arith}
+use Rattle.std.proofs.Common.{◌<◌, length, sym, ◌∙◌, arith}
 use Rattle.clusters.specs.Positions.{los}
-use Rattle.counting.specs.Optional.{flags, weights, flag_at, number_at}
+use Rattle.counting.specs.Optional.{flags, weights, flag_is, number_is}
 use Rattle.counting.specs.CloseSums.{branch-none, branch_yes, branch_no, branch-room, option_none, option_clear, option_flagged, option_no, option_room}
 use Rattle.counting.proofs.close.sum_branches.Goals as goal
 use Rattle.counting.proofs.close.sum_branches.Goals.{then-hangs+in-Some, then-hangs+in-None, else-hangs}
@@ -42,8 +42,8 @@ overflow_add-free g c =
     let l = c.loop-j in
     let i = l.invariant.free_is in
     let stored : l.j < length a.ungated.now = omega arith in
-    let room = option_room (los a.c.now.cuttable) a.c.now.host (weights a.ungated.now) (flags a.ungated.now) a.r l.j a.c.now.n (omega arith) (sym c.hangs.ensures ∙ c.if-hangs.true) (flag_at a.ungated.now l.j _ stored ∙ ap is_some c.in-Some.is) in
-    let weight = number_at a.ungated.now l.j _ stored ∙ ap (λ (o : Option ℕ). unwrap_or o 0) c.in-Some.is in
+    let room = option_room (los a.c.now.cuttable) a.c.now.host (weights a.ungated.now) (flags a.ungated.now) a.r l.j a.c.now.n (omega arith) (sym c.hangs.ensures ∙ c.if-hangs.true) (flag_is a.ungated.now l.j _ c.in-Some.is stored) in
+    let weight = number_is a.ungated.now l.j _ c.in-Some.is stored in
     record { fits = omega arith }
 
 pub loop-j-preserved : goal.loop-j-preserved
@@ -55,8 +55,8 @@ loop-j-preserved g c =
     elim c.if-hangs.branch [
       | then-hangs+in-Some w ↦
           let h = sym c.hangs.ensures ∙ w.if-hangs.true in
-          let z = option_flagged (los a.c.now.cuttable) a.c.now.host (weights a.ungated.now) (flags a.ungated.now) a.r l.j h (flag_at a.ungated.now l.j _ stored ∙ ap is_some w.in-Some.is) in
-          let weight = number_at a.ungated.now l.j _ stored ∙ ap (λ (o : Option ℕ). unwrap_or o 0) w.in-Some.is in
+          let z = option_flagged (los a.c.now.cuttable) a.c.now.host (weights a.ungated.now) (flags a.ungated.now) a.r l.j h (flag_is a.ungated.now l.j _ w.in-Some.is stored) in
+          let weight = number_is a.ungated.now l.j _ w.in-Some.is stored in
           record {
             count_is = omega (arith, w.count-is, branch_yes (los a.c.now.cuttable) a.c.now.host a.b.now.count a.r l.j h);
             lightest_is = omega (arith, w.lightest-is, branch_yes (los a.c.now.cuttable) a.c.now.host a.b.now.lightest a.r l.j h);
@@ -66,7 +66,7 @@ loop-j-preserved g c =
           }
       | then-hangs+in-None w ↦
           let h = sym c.hangs.ensures ∙ w.if-hangs.true in
-          let z = option_clear (los a.c.now.cuttable) a.c.now.host (weights a.ungated.now) (flags a.ungated.now) a.r l.j h (flag_at a.ungated.now l.j _ stored ∙ ap is_some w.in-None.is) in
+          let z = option_clear (los a.c.now.cuttable) a.c.now.host (weights a.ungated.now) (flags a.ungated.now) a.r l.j h (flag_is a.ungated.now l.j _ w.in-None.is stored) in
           record {
             count_is = omega (arith, w.count-is, branch_yes (los a.c.now.cuttable) a.c.now.host a.b.now.count a.r l.j h);
             lightest_is = omega (arith, w.lightest-is, branch_yes (los a.c.now.cuttable) a.c.now.host a.b.now.lightest a.r l.j h);
