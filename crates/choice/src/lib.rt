@@ -1,4 +1,6 @@
 // The pass up: the option that each cluster takes, and the branches cut at their highest cuttable point.
+// `cut_high` is an array beside those of the passes before: this pass alone writes it, while those are read; in one struct with them, the contract would have to say that they stay, no plainer.
+// Of the wires their section is read: any that holds them will do, and a `Net` would ask more of callers.
 #![tactic(auto)]
 
 ghost use Rattle.std.specs.Prelude.{◌≡◌, Bool, false, not, ◌&&◌, ◌||◌, cond, List, ℕ, ◌+◌, ◌*◌, ◌<◌, ◌≤◌, length, get_or, leb, ltb};

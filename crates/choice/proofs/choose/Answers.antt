@@ -1,7 +1,7 @@
 -- `choice::choose` meets its contract: the clusters passed have their options, and what is added now is at the next one.
 -- Assumes nothing.
-use Rattle.std.proofs.Common.{ℕ, Bool, ◌≡◌, ◌<◌, ◌≤◌, ◌+◌, ◌∙◌, ap, get_or, set, length, length-set, rules, arith}
-use Rattle.clusters.specs.Positions.{lo_of, hi_of, los, lo_at, hi_at}
+use Rattle.std.proofs.Common.{ℕ, Bool, ◌≡◌, ◌<◌, ◌≤◌, ◌+◌, ◌∙◌, get_or, set, length, length-set, rules, arith}
+use Rattle.clusters.specs.Positions.{los, lo_is, hi_is}
 use Rattle.choice.specs.Choose.{cut_here, any_here, Chooses}
 use Rattle.choice.specs.ChooseLaws.{cut_here-root, any_here-root, cut_here-branch, any_here-branch, chooses_more}
 use Rattle.choice.proofs.choose.Goals as goal
@@ -14,8 +14,8 @@ fits_whole-fits-requires g c =
     let known = c.requires.choosable in
     let e = c.in-Some.ends in
     let stored : r < length c.args.c.now.cuttable = omega arith in
-    let lo = lo_at c.args.c.now.cuttable r _ stored ∙ ap lo_of c.in-Some.is in
-    let hi = hi_at c.args.c.now.cuttable r _ stored ∙ ap hi_of c.in-Some.is in
+    let lo = lo_is c.args.c.now.cuttable r _ c.in-Some.is stored in
+    let hi = hi_is c.args.c.now.cuttable r _ c.in-Some.is stored in
     let branch : 0 < get_or (los c.args.c.now.cuttable) r 0 = omega (arith, lo, e.positive) in
     let below = known.below r p branch in
     -- the size of what is lent, then the clauses
@@ -33,8 +33,8 @@ loop-r-preserved g c =
     λ h m eh em. chooses_more ws first counts a.limit l.any_mode l.cut_high l.r h m (omega arith) (omega arith) (λ j p. c.requires.choosable.below j (omega arith)) eh em l.invariant.chosen in
     elim c.match-c-r.branch [
       | in-Some w ↦
-          let lo = lo_at first.cuttable l.r _ stored ∙ ap lo_of w.in-Some.is in
-          let hi = hi_at first.cuttable l.r _ stored ∙ ap hi_of w.in-Some.is in
+          let lo = lo_is first.cuttable l.r _ w.in-Some.is stored in
+          let hi = hi_is first.cuttable l.r _ w.in-Some.is stored in
           let branch : 0 < get_or (los first.cuttable) l.r 0 = omega (arith, lo, w.in-Some.ends.positive) in
           rw (w.any_mode-is, w.cut_high-is)
           (record {
@@ -44,7 +44,7 @@ loop-r-preserved g c =
                 (any_here-branch ws first counts a.limit l.any_mode _ _ _ l.r branch (rw w.stops.ensures at w.takes_any.ensures) (rw (lo, hi) w.fits_whole-fits.ensures));
           })
       | in_default w ↦
-          let lo = lo_at first.cuttable l.r _ stored ∙ ap lo_of w.in_default.is in
+          let lo = lo_is first.cuttable l.r _ w.in_default.is stored in
           let root : get_or (los first.cuttable) l.r 0 ≤ 0 = omega (arith, lo) in
           rw (w.any_mode-is, w.cut_high-is)
           (record {
