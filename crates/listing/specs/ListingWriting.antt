@@ -1,12 +1,14 @@
 -- Lengths of entries, and one wire more, as the list's writer goes through the wires.
 -- Assumes nothing.
-use Rattle.std.specs.Prelude.{ℕ, ◌+◌, ◌*◌, ◌≤◌, ◌<◌, ◌≡◌, refl, Bool, true, false, List, [], ◌++◌, length, get_or, ltb}
+use Rattle.std.specs.Prelude.{ℕ, ◌+◌, ◌*◌, ◌≤◌, ◌<◌, ◌≡◌, refl, Bool, true, false, List, [], ◌++◌, is_some, length, get_or, ltb, unwrap_or}
+use Rattle.std.specs.Bool.{then_some}
 use Rattle.std.proofs.Common.{◌∙◌, arith, add-one, length-append}
 use Rattle.laws.specs.Sum.{χ}
 use Rattle.laws.specs.Sums.{sum_ap, sum-mul, sum-next, sum_next-≤}
 use Rattle.laws.specs.Gather.{gather}
 use Rattle.laws.specs.Gathers.{length-gather}
 use Rattle.net.specs.Layout.{entry_bytes}
+use Rattle.net.specs.Limits.{length_bound}
 use Rattle.listing.specs.Listing.{entry_if, wire_entries, wire_count, list_of, count_of}
 
 pub length-entry_if : (t : Bool) (w p : ℕ) → length (entry_if t w p) ≡ entry_bytes * χ t 1
@@ -19,6 +21,19 @@ length-wire_entries w near hi cut_high =
     let b = length-entry_if (ltb 0 near) w near in
     let c = length-entry_if cut_high w hi in
     omega arith
+
+-- the highest position is written where the wire is cut there, whatever it is elsewhere
+pub high_count : (near hi : ℕ) (cut : Bool) → wire_count near (is_some (then_some cut hi)) ≡ wire_count near cut
+high_count near hi true = refl
+high_count near hi false = refl
+
+pub high_entries : (w near hi : ℕ) (cut : Bool) → wire_entries w near (unwrap_or (then_some cut hi) 0) (is_some (then_some cut hi)) ≡ wire_entries w near hi cut
+high_entries w near hi true = refl
+high_entries w near hi false = refl
+
+pub high_short : (hi : ℕ) (cut : Bool) → hi < length_bound → unwrap_or (then_some cut hi) 0 < length_bound
+high_short hi true p = p
+high_short hi false p = omega arith
 
 module _ (hi near : List ℕ) (cut_high : List Bool) where
   pub length-list_of : (n : ℕ) → length (list_of n hi near cut_high) ≡ entry_bytes * count_of n near cut_high

@@ -6,9 +6,9 @@ use Rattle.laws.specs.Lists.{over, over_lent}
 use Rattle.laws.specs.Sum.{sum}
 use Rattle.laws.specs.Gather.{gather}
 use Rattle.net.specs.Layout.{entry_bytes}
-use Rattle.clusters.specs.Positions.{his, position_of, positions, position_at}
+use Rattle.clusters.specs.Positions.{his, position_of, positions, position_is}
 use Rattle.listing.specs.Listing.{list_of, wire_count, wire_entries}
-use Rattle.listing.specs.ListingWriting.{length-list_of, list_of-next, count_of-next, room_at}
+use Rattle.listing.specs.ListingWriting.{length-list_of, list_of-next, count_of-next, room_at, high_count, high_entries, high_short}
 use Rattle.listing.proofs.write_list.Goals as goal
 
 room : (c : goal.In-loop-r) →
@@ -38,9 +38,8 @@ write_wire_entries-count-requires c =
     let q = c.requires.writable in
     let m = room_at (positions a.near.now) a.cut_high.now a.n l.r l.count (length l.out) c.loop-r-test.true l.invariant.0 (omega (arith, l.auto.out)) in
     let stored : l.r < length a.near.now = omega (arith, q.nears, length-map a.near.now position_of) in
-    let at = position_at a.near.now l.r c.index-near-r.result stored ∙ ap position_of (sym c.index-near-r.is) in
-    rw (← at)
-    (q.near_short l.r c.loop-r-test.true, omega (arith, c.highest-hi.ensures, q.hi_short l.r c.loop-r-test.true), search rules)
+    rw (← position_is a.near.now l.r _ (sym c.index-near-r.is) stored, c.then_some-high.ensures, c.highest.ensures, high_count (get_or (positions a.near.now) l.r 0) (get_or (his a.cuttable.now) l.r 0) (get_or a.cut_high.now l.r false))
+    (q.near_short l.r c.loop-r-test.true, high_short _ _ (q.hi_short l.r c.loop-r-test.true), search rules)
 
 pub loop-r-preserved : goal.loop-r-preserved
 loop-r-preserved c =
@@ -49,15 +48,14 @@ loop-r-preserved c =
     let m = room_at (positions a.near.now) a.cut_high.now a.n l.r l.count (length l.out) c.loop-r-test.true l.invariant.0 (omega (arith, l.auto.out)) in
     let q = c.requires.writable in
     let stored : l.r < length a.near.now = omega (arith, q.nears, length-map a.near.now position_of) in
-    let at = position_at a.near.now l.r c.index-near-r.result stored ∙ ap position_of (sym c.index-near-r.is) in
-    let e = rw (← at) at c.write_wire_entries-count.ensures in
     let hi = his a.cuttable.now in
-    let near = (positions a.near.now) in
+    let near = positions a.near.now in
     let cut_high = a.cut_high.now in
+    let e = rw (← position_is a.near.now l.r _ (sym c.index-near-r.is) stored, c.then_some-high.ensures, c.highest.ensures, high_count (get_or near l.r 0) (get_or hi l.r 0) (get_or cut_high l.r false), high_entries l.r (get_or near l.r 0) (get_or hi l.r 0) (get_or cut_high l.r false)) at c.write_wire_entries-count.ensures in
     let next = wire_entries l.r (get_or near l.r 0) (get_or hi l.r 0) (get_or cut_high l.r false) in
     let k = length-list_of hi near cut_high l.r in
     let n = count_of-next hi near cut_high l.r in (
       omega arith,
-      over_lent (list_of l.r hi near cut_high) next a.out.now _ _ _ l.invariant.1 (omega arith) (omega arith) (rw c.highest-hi.ensures at e.1)
+      over_lent (list_of l.r hi near cut_high) next a.out.now _ _ _ l.invariant.1 (omega arith) (omega arith) e.1
           ∙ ap (λ (x : List ℕ). over x a.out.now) (sym (list_of-next hi near cut_high l.r)),
     )
