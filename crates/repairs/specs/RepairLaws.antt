@@ -10,13 +10,14 @@ use Rattle.laws.specs.Sum.{χ}
 use Rattle.laws.specs.Sums.{and_left, sum_bound}
 use Rattle.laws.specs.Lists.{over}
 use Rattle.net.specs.declared.Answer.{Answer}
+use Rattle.net.specs.declared.Net.{Net}
 use Rattle.net.specs.Layout.{newest, entry_bytes}
 use Rattle.net.specs.Limits.{weight_bound}
 use Rattle.net.specs.Refusal.{none, refusal, answer, net_refusal}
-use Rattle.net.specs.Net.{node_count, wire_factor, wire_length, barred}
+use Rattle.net.specs.Net.{node_count, wire_length, barred}
 use Rattle.net.specs.Stage.{Stage, stage_of}
 use Rattle.net.specs.Formed.{Formed}
-use Rattle.net.specs.Accepted.{NetRight, formed}
+use Rattle.net.specs.Accepted.{NetRight, net-right, formed}
 use Rattle.points.specs.Geometry.{checked_of}
 use Rattle.pieces.specs.Legal.{Smallest, NoneLegal}
 use Rattle.pieces.specs.Barring.{none_legal_same, smallest-same}
@@ -47,6 +48,10 @@ use Rattle.listing.specs.Listing.{list_of, count_of}
 use Rattle.listing.specs.ListingWriting.{length-list_of}
 use Rattle.listing.specs.ListingPoints.{Listable}
 use Rattle.listing.specs.ListingSmallest.{listable, smallest_list, count_is_total}
+
+-- an accepted net of the newest version
+pub newest_right : (net : Net) → net.version ≡ newest → NetRight newest net.nodes.now net.wires.now net.obstacles.now
+newest_right net e = net-right newest net.nodes.now net.wires.now net.obstacles.now (rw e at net.accepted)
 
 -- what both passes leave for the writer of the list: its entries are those of a smallest legal set
 pub record Planned (s : Stage) (limit : ℕ) (hi near : List ℕ) (cut_high : List Bool) (points : ℕ) : Type 0 where

@@ -1,4 +1,5 @@
 // Repair: what the call tries in order, and the passes behind it.
+// The three `as`: std has no From between usize and u64, nor from u32 to u8, and try_from would add a branch that gives up, where the stage is proved to fit.
 #![tactic(auto)]
 
 ghost use Rattle.std.specs.Prelude.{◌≡◌};

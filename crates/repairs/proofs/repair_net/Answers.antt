@@ -1,75 +1,67 @@
 -- `repairs::repair_net` meets its contract: each pass has what it requires from those before, and the answers are those of the promise.
 -- Assumes nothing.
 use Rattle.std.proofs.Common.{◌*◌, refl, sym, ◌∙◌, rules, arith}
-use Rattle.net.specs.Layout.{newest, entry_bytes}
+use Rattle.net.specs.Layout.{entry_bytes}
 use Rattle.net.specs.declared.refusal.Refusal.TheVariants.{NoLegalSet, LentBuffer}
 use Rattle.net.specs.Answered.{answered_err, answered_ok}
-use Rattle.net.specs.Accepted.{net-right}
 use Rattle.net.specs.Stage.{stage_of}
 use Rattle.std.proofs.lemmas.List.{length-map}
 use Rattle.clusters.specs.Positions.{hi_of, position_of}
 use Rattle.clusters.specs.FitsLaws.{wired_of}
 use Rattle.clusters.specs.HopelessLaws.{none-hopeless}
 use Rattle.repairs.specs.Promise.{no_legal_set}
-use Rattle.repairs.specs.RepairLaws.{ready_of, none_of, choosable_of, planned, planned-some, points-few, judged-short, judged-done}
+use Rattle.repairs.specs.RepairLaws.{newest_right, ready_of, none_of, choosable_of, planned, planned-some, points-few, judged-short, judged-done}
 use Rattle.repairs.proofs.repair_net.Goals as goal
 
 pub first_passes-requires : goal.first_passes-requires
 first_passes-requires c =
-    let a = c.args in
-    let right = net-right newest a.net.nodes.now a.net.wires.now a.net.obstacles.now (rw c.requires at a.net.accepted) in
+    let right = newest_right c.args.net c.requires in
     -- the size of what is lent, then the clauses
     (search rules, (wired_of right, right.sized.few_nodes))
 
 pub returns-then-find_hopeless : goal.returns-then-find_hopeless
 returns-then-find_hopeless c =
-    let a = c.args in
-    let right = net-right newest a.net.nodes.now a.net.wires.now a.net.obstacles.now (rw c.requires at a.net.accepted) in
+    let right = newest_right c.args.net c.requires in
     rw c.requires
     (no_legal_set
-    (none_of a.net.nodes.now a.net.wires.now a.net.obstacles.now a.stage right c.first_passes.new.c c.first_passes.ensures a.limit (sym c.find_hopeless.ensures.0 ∙ c.if-find_hopeless.true))
+    (none_of _ _ _ _ right _ c.first_passes.ensures _ (sym c.find_hopeless.ensures.0 ∙ c.if-find_hopeless.true))
     (answered_err NoLegalSet 0) refl)
 
 pub count_pass-points-requires : goal.count_pass-points-requires
 count_pass-points-requires c =
-    let a = c.args in
-    let right = net-right newest a.net.nodes.now a.net.wires.now a.net.obstacles.now (rw c.requires at a.net.accepted) in
-    let first = c.first_passes.new.c in (
+    let right = newest_right c.args.net c.requires in (
       search rules,
       (
         search rules,
         (
-          ready_of a.net.nodes.now a.net.wires.now a.net.obstacles.now a.stage right first c.first_passes.ensures,
-          none-hopeless first.n first.fixed first.gates a.limit (sym c.find_hopeless.ensures.0 ∙ c.if-find_hopeless.false),
+          ready_of _ _ _ _ right _ c.first_passes.ensures,
+          none-hopeless _ _ _ _ (sym c.find_hopeless.ensures.0 ∙ c.if-find_hopeless.false),
         ),
       ),
     )
 
 pub overflow_mul-needed : goal.overflow_mul-needed
 overflow_mul-needed c =
-    let a = c.args in
-    let right = net-right newest a.net.nodes.now a.net.wires.now a.net.obstacles.now (rw c.requires at a.net.accepted) in
-    let few = points-few a.net.nodes.now a.net.wires.now a.net.obstacles.now a.stage right c.first_passes.new.c c.first_passes.ensures a.limit c.count_pass-points.new.k c.count_pass-points.result c.count_pass-points.ensures in
+    let right = newest_right c.args.net c.requires in
+    let few = points-few _ _ _ _ right _ c.first_passes.ensures _ _ _ c.count_pass-points.ensures in
     record { fits = omega (arith, right.sized.few_nodes) }
 
 pub returns-then-out-needed : goal.returns-then-out-needed
 returns-then-out-needed c =
-    let a = c.args in
-    let right = net-right newest a.net.nodes.now a.net.wires.now a.net.obstacles.now (rw c.requires at a.net.accepted) in
-    let some = planned-some a.net.nodes.now a.net.wires.now a.net.obstacles.now a.stage right c.first_passes.new.c c.first_passes.ensures a.limit c.count_pass-points.new.k c.count_pass-points.result c.count_pass-points.ensures in
+    let right = newest_right c.args.net c.requires in
+    let some = planned-some _ _ _ _ right _ c.first_passes.ensures _ _ _ c.count_pass-points.ensures in
     rw c.requires (judged-short some.1 c.if-out-needed.true (answered_err (LentBuffer (entry_bytes * c.count_pass-points.result)) 0))
 
 pub choose-requires : goal.choose-requires
 choose-requires c =
-    let a = c.args in
-    let right = net-right newest a.net.nodes.now a.net.wires.now a.net.obstacles.now (rw c.requires at a.net.accepted) in
+    let right = newest_right c.args.net c.requires in
     let first = c.first_passes.new.c in (
       search rules,
       (
         search rules,
         (
           omega (arith, first.few),
-          choosable_of a.net.nodes.now a.net.wires.now a.net.obstacles.now a.stage right first c.first_passes.ensures a.limit c.count_pass-points.new.k c.count_pass-points.result c.count_pass-points.ensures,
+          choosable_of _ _ _ _ right _ c.first_passes.ensures _ _ _ c.count_pass-points.ensures,
         ),
       ),
     )
@@ -77,10 +69,9 @@ choose-requires c =
 pub write_list-requires-clause-writable : goal.write_list-requires-clause-writable
 unfolding stage_of
 write_list-requires-clause-writable c =
-    let a = c.args in
-    let right = net-right newest a.net.nodes.now a.net.wires.now a.net.obstacles.now (rw c.requires at a.net.accepted) in
+    let right = newest_right c.args.net c.requires in
     let first = c.first_passes.ensures in
-    let plan = planned a.net.nodes.now a.net.wires.now a.net.obstacles.now a.stage right c.first_passes.new.c first a.limit c.count_pass-points.new.k c.count_pass-points.result c.count_pass-points.ensures c.choose.ensures.0 c.choose.new.cut_high c.choose.ensures.1 in
+    let plan = planned _ _ _ _ right _ first _ _ _ c.count_pass-points.ensures _ _ c.choose.ensures.1 in
     record {
       few = omega (arith, first.n_is, right.sized.few_nodes);
       his = omega (arith, c.first_passes.new.c.few, length-map c.first_passes.new.c.cuttable hi_of);
@@ -93,17 +84,15 @@ write_list-requires-clause-writable c =
 pub write_list-requires-clause-cut_high_in_bounds : goal.write_list-requires-clause-cut_high_in_bounds
 unfolding stage_of
 write_list-requires-clause-cut_high_in_bounds c =
-    let a = c.args in
-    let right = net-right newest a.net.nodes.now a.net.wires.now a.net.obstacles.now (rw c.requires at a.net.accepted) in
+    let right = newest_right c.args.net c.requires in
     let first = c.first_passes.ensures in
-    let plan = planned a.net.nodes.now a.net.wires.now a.net.obstacles.now a.stage right c.first_passes.new.c first a.limit c.count_pass-points.new.k c.count_pass-points.result c.count_pass-points.ensures c.choose.ensures.0 c.choose.new.cut_high c.choose.ensures.1 in
+    let plan = planned _ _ _ _ right _ first _ _ _ c.count_pass-points.ensures _ _ c.choose.ensures.1 in
     rw first.n_is (omega (arith, plan.points_is, c.if-out-needed.false))
 
 pub returns : goal.returns
 unfolding stage_of
 returns c =
-    let a = c.args in
-    let right = net-right newest a.net.nodes.now a.net.wires.now a.net.obstacles.now (rw c.requires at a.net.accepted) in
+    let right = newest_right c.args.net c.requires in
     let first = c.first_passes.ensures in
-    let plan = planned a.net.nodes.now a.net.wires.now a.net.obstacles.now a.stage right c.first_passes.new.c first a.limit c.count_pass-points.new.k c.count_pass-points.result c.count_pass-points.ensures c.choose.ensures.0 c.choose.new.cut_high c.choose.ensures.1 in
+    let plan = planned _ _ _ _ right _ first _ _ _ c.count_pass-points.ensures _ _ c.choose.ensures.1 in
     rw c.requires (judged-done plan (omega (arith, c.if-out-needed.false)) (answered_ok c.count_pass-points.result) (rw first.n_is at c.write_list.ensures.1))
