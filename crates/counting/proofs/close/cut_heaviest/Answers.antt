@@ -9,38 +9,23 @@ loop-left-init g c = record { cutting = cutting_start _ _ _ _ _ _ _ _ _ c.requir
 
 pub unreachable-requires : goal.unreachable-requires
 unreachable-requires g c =
-    let m = cutting_more _ _ _ _ _ c.loop-left.invariant.cutting c.in_default.ensures c.requires.fixed_le_limit.0 c.loop-left-test.true in
+    let m = cutting_more _ _ _ _ _ c.loop-left.invariant.cutting c.in_default.ensures.heaviest c.requires.fixed_le_limit.0 c.loop-left-test.true in
     omega (arith, m.0)
-
-pub bounds-cut_any-at : goal.bounds-cut_any-at
-bounds-cut_any-at g c =
-    let m = cutting_more _ _ _ _ _ c.loop-left.invariant.cutting c.in-Some.ensures c.requires.fixed_le_limit.0 c.loop-left-test.true in
-    omega (arith, m.1.inside)
-
-pub offset_bounds-b-at : goal.offset_bounds-b-at
-offset_bounds-b-at g c =
-    let m = cutting_more _ _ _ _ _ c.loop-left.invariant.cutting c.in-Some.ensures c.requires.fixed_le_limit.0 c.loop-left-test.true in
-    record { fits = omega (arith, m.1.inside) }
-
-pub bounds-b-at : goal.bounds-b-at
-bounds-b-at g c =
-    let m = cutting_more _ _ _ _ _ c.loop-left.invariant.cutting c.in-Some.ensures c.requires.fixed_le_limit.0 c.loop-left-test.true in
-    omega (arith, m.1.inside)
 
 pub overflow_sub-left : goal.overflow_sub-left
 overflow_sub-left g c =
-    let m = cutting_more _ _ _ _ _ c.loop-left.invariant.cutting c.in-Some.ensures c.requires.fixed_le_limit.0 c.loop-left-test.true in
+    let m = cutting_more _ _ _ _ _ c.loop-left.invariant.cutting c.in-Some.ensures.heaviest c.requires.fixed_le_limit.0 c.loop-left-test.true in
     cutting_part _ _ _ _ _ c.loop-left.invariant.cutting m.1 (omega (arith, m.1.inside, c.loop-left.invariant.cutting.long))
 
 pub loop-left-smaller : goal.loop-left-smaller
 loop-left-smaller g c =
-    let m = cutting_more _ _ _ _ _ c.loop-left.invariant.cutting c.in-Some.ensures c.requires.fixed_le_limit.0 c.loop-left-test.true in
+    let m = cutting_more _ _ _ _ _ c.loop-left.invariant.cutting c.in-Some.ensures.heaviest c.requires.fixed_le_limit.0 c.loop-left-test.true in
     omega (arith, m.0)
 
 pub loop-left-preserved : goal.loop-left-preserved
 loop-left-preserved g c =
-    let m = cutting_more _ _ _ _ _ c.loop-left.invariant.cutting c.in-Some.ensures c.requires.fixed_le_limit.0 c.loop-left-test.true in
+    let m = cutting_more _ _ _ _ _ c.loop-left.invariant.cutting c.in-Some.ensures.heaviest c.requires.fixed_le_limit.0 c.loop-left-test.true in
     record {
-      cutting = cutting_step _ _ _ _ _ c.loop-left.invariant.cutting c.in-Some.ensures m.1 (omega (arith, m.1.inside, c.loop-left.invariant.cutting.long)) c.loop-left-test.true;
+      cutting = cutting_step _ _ _ _ _ c.loop-left.invariant.cutting c.in-Some.ensures.heaviest m.1 (omega (arith, m.1.inside, c.loop-left.invariant.cutting.long)) c.loop-left-test.true;
       weight = omega (arith, m.0);
     }
