@@ -7,11 +7,10 @@ use Rattle.counting.proofs.climb.last_within.Goals as goal
 
 pub highest_cuttable-requires : goal.highest_cuttable-requires
 highest_cuttable-requires c =
-    let a = c.args in
     let b = c.requires.branch in
     let e = c.weight_of_step.ensures.0 in
-    let inside = steps-inside a.nodes.now a.wires.now a.obstacles.now a.i a.ends.lo a.ends.hi a.weight a.limit b c.requires.weight_le_limit.0 c.requires.weight_le_limit.1 in
-    let high = open_high a.nodes.now a.wires.now a.obstacles.now a.i a.ends.hi b.hi_open in
+    let inside = steps-inside _ _ _ _ _ _ _ _ b c.requires.weight_le_limit.0 c.requires.weight_le_limit.1 in
+    let high = open_high _ _ _ _ _ b.hi_open in
     (b.checked, rw e (omega arith))
 
 is-some : (P : ℕ → Type 0) (r : Option ℕ) → IsSomeAnd r P → IsSome r
@@ -22,11 +21,10 @@ pub unwrap-requires : goal.unwrap-requires
 unwrap-requires c =
     let a = c.args in
     is-some (LastWithin a.nodes.now a.wires.now a.obstacles.now a.i a.ends.lo a.ends.hi a.weight a.limit) _
-    (last_within a.nodes.now a.wires.now a.obstacles.now a.i a.ends.lo a.ends.hi a.weight a.limit _ c.requires.branch c.requires.weight_le_limit.0 c.requires.weight_le_limit.1
+    (last_within _ _ _ _ _ _ _ _ _ c.requires.branch c.requires.weight_le_limit.0 c.requires.weight_le_limit.1
     (rw (c.from.ensures, c.weight_of_step.ensures.0) at c.highest_cuttable.ensures))
 
 pub returns : goal.returns
 returns c =
-    let a = c.args in
-    last_within a.nodes.now a.wires.now a.obstacles.now a.i a.ends.lo a.ends.hi a.weight a.limit (Some c.unwrap.result) c.requires.branch c.requires.weight_le_limit.0 c.requires.weight_le_limit.1
+    last_within _ _ _ _ _ _ _ _ (Some c.unwrap.result) c.requires.branch c.requires.weight_le_limit.0 c.requires.weight_le_limit.1
     (rw (c.from.ensures, c.weight_of_step.ensures.0, c.unwrap.ensures) at c.highest_cuttable.ensures)

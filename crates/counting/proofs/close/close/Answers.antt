@@ -2,22 +2,18 @@
 -- Assumes nothing.
 use Rattle.std.proofs.Common.{refl, inl, arith}
 use Rattle.clusters.specs.Positions.{los}
-use Rattle.counting.specs.Optional.{flags, weights}
-use Rattle.counting.specs.Close.{cluster_at}
 use Rattle.counting.specs.CloseSums.{flagged_few}
 use Rattle.counting.specs.CloseEndings.{no-gate, ends-ungated, ends_compared}
 use Rattle.counting.proofs.close.close.Goals as goal
 
 pub returns-then-limit-c : goal.returns-then-limit-c
 returns-then-limit-c g c =
-    let a = c.args in
     let sums = c.sum_branches-sums.ensures in
     record {
       long = refl;
       others = λ j h. refl;
       closed =
-          ends-ungated a.c.now.n (los a.c.now.cuttable) a.c.now.host a.b.now.count a.b.now.lightest (flags a.ungated.now) (weights a.ungated.now) a.cut_any.now a.cut_any.now (cluster_at a.c.now.fixed a.c.now.gates a.r) a.limit
-          _ _ _ sums.0 sums.3 (omega (arith, sums.2)) (no-gate _ _ _ c.requires.fixed_le_limit c.if-limit-c.true) (inl c.if-limit-c.true) _ refl;
+          ends-ungated _ _ _ _ _ _ _ c.args.cut_any.now _ _ _ _ _ _ sums.0 sums.3 (omega (arith, sums.2)) (no-gate _ _ _ c.requires.fixed_le_limit c.if-limit-c.true) (inl c.if-limit-c.true) _ refl;
     }
 
 pub compare-requires : goal.compare-requires
@@ -30,13 +26,11 @@ compare-requires g c =
 
 pub returns : goal.returns
 returns g c =
-    let a = c.args in
     let sums = c.sum_branches-sums.ensures in
     let cutting = c.cut_heaviest-any.ensures in
     record {
       long = cutting.0.long;
       others = cutting.0.others;
       closed =
-          ends_compared a.c.now.n (los a.c.now.cuttable) a.c.now.host a.b.now.count a.b.now.lightest (flags a.ungated.now) (weights a.ungated.now) a.cut_any.now c.cut_heaviest-any.new.cut_any (cluster_at a.c.now.fixed a.c.now.gates a.r) a.limit
-          _ _ _ sums.0 sums.3 (omega (arith, sums.2)) _ cutting.0 cutting.1 c.compare.ensures;
+          ends_compared _ _ _ _ _ _ _ _ _ _ _ _ _ _ sums.0 sums.3 (omega (arith, sums.2)) _ cutting.0 cutting.1 c.compare.ensures;
     }

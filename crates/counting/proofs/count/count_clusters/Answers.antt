@@ -1,18 +1,15 @@
 -- `counting::count::count_clusters` meets its contract: before each turn the clusters from r on are closed and climbed, and no branch of a lower one is marked.
 -- Assumes nothing.
 use Rattle.std.proofs.Common.{◌≡◌, ◌<◌, ◌+◌, ◌-◌, length, rules, arith}
-use Rattle.clusters.specs.Positions.{los, lo_is, hi_is}
-use Rattle.counting.specs.Optional.{flags, weights}
-use Rattle.counting.specs.Close.{cluster_at}
+use Rattle.clusters.specs.Positions.{lo_is, hi_is}
 use Rattle.counting.specs.CountStep.{closable}
 use Rattle.counting.specs.CountArrays.{counted_none, room_of, unmarked_branches, unmarked_less, hung-above, branch_of, counted-turn, counted_root}
 use Rattle.counting.proofs.count.count_clusters.Goals as goal
 
 pub loop-r-init : goal.loop-r-init
 loop-r-init g c =
-    let a = c.args in
     record {
-      counted = counted_none a.nodes.now a.wires.now a.obstacles.now a.c.now c.requires.ready a.limit a.k.now a.b.now;
+      counted = counted_none _ _ _ _ c.requires.ready _ _ _;
       unmarked = λ j p k h. c.requires.none_marked j p;
     }
 
@@ -24,9 +21,9 @@ close-x-requires g c =
     let ready = c.requires.ready in
     let inside : r < a.c.now.n = omega arith in
     let back : r + 1 ≡ l.r = omega arith in
-    let room = room_of a.nodes.now a.wires.now a.obstacles.now a.c.now ready a.limit l.k l.b r inside (rw back l.invariant.counted) in
-    let none_cut = unmarked_branches a.nodes.now a.wires.now a.obstacles.now a.c.now ready l.k.cut_any r (rw back l.invariant.unmarked) in
-    let above = hung-above a.nodes.now a.wires.now a.obstacles.now a.c.now ready r inside in
+    let room = room_of _ _ _ _ ready _ _ _ r inside (rw (← back) at l.invariant.counted) in
+    let none_cut = unmarked_branches _ _ _ _ ready _ r (rw (← back) at l.invariant.unmarked) in
+    let above = hung-above _ _ _ _ ready r inside in
     -- the sizes of what is lent, then the clauses
     (search rules, (search rules, (search rules, (search rules, (room, (none_cut, ((inside, above), c.requires.none_hopeless r inside)))))))
 
@@ -38,7 +35,7 @@ climb-y-requires-clause-branch g c =
     let lo = lo_is a.c.now.cuttable r _ c.in-Some.is stored in
     let hi = hi_is a.c.now.cuttable r _ c.in-Some.is stored in
     let positive = c.in-Some.ends.positive in
-    rw (lo, hi) at (branch_of a.nodes.now a.wires.now a.obstacles.now a.c.now c.requires.ready r (omega arith) (omega (arith, lo, positive)))
+    rw (lo, hi) at (branch_of _ _ _ _ c.requires.ready r (omega arith) (omega (arith, lo, positive)))
 
 pub climb-y-requires-clause-closable : goal.climb-y-requires-clause-closable
 climb-y-requires-clause-closable g c =
@@ -47,8 +44,8 @@ climb-y-requires-clause-closable g c =
     let r = l.r - 1 in
     let inside : r < a.c.now.n = omega arith in
     let back : r + 1 ≡ l.r = omega arith in
-    let room = room_of a.nodes.now a.wires.now a.obstacles.now a.c.now c.requires.ready a.limit l.k l.b r inside (rw back l.invariant.counted) in
-    closable a.c.now.n (los a.c.now.cuttable) a.c.now.host l.b.count l.b.lightest (flags l.k.ungated) (weights l.k.ungated) c.close-x.new.cut_any (cluster_at a.c.now.fixed a.c.now.gates r) a.limit c.close-x.result room c.close-x.ensures.closed
+    let room = room_of _ _ _ _ c.requires.ready _ _ _ r inside (rw (← back) at l.invariant.counted) in
+    closable _ _ _ _ _ _ _ _ _ _ _ room c.close-x.ensures.closed
 
 pub loop-r-preserved-in-Some : goal.loop-r-preserved-in-Some
 loop-r-preserved-in-Some g c =
@@ -65,11 +62,11 @@ loop-r-preserved-in-Some g c =
     record {
       counted =
           rw (c.has_any.ensures, c.any_weight.ensures)
-          (counted-turn a.nodes.now a.wires.now a.obstacles.now a.c.now ready a.limit r inside l.k l.b c.close-x.new.cut_any c.close-x.result c.climb-y.result c.close-x.ensures
+          (counted-turn _ _ _ _ ready _ r inside _ _ _ _ _ c.close-x.ensures
           (record { climbed = λ p. rw (lo, hi) c.climb-y.ensures; none = λ z. absurd (omega (arith, lo, positive)) })
           (record { fewest = omega arith; any_ok = omega arith; any_weight = omega arith; near = omega arith; count = omega arith; lightest = omega arith; ungated = omega arith })
-          (rw back l.invariant.counted));
-      unmarked = unmarked_less a.nodes.now a.wires.now a.obstacles.now a.c.now ready l.k.cut_any c.close-x.new.cut_any r (rw back l.invariant.unmarked) c.close-x.ensures.others;
+          (rw (← back) at l.invariant.counted));
+      unmarked = unmarked_less _ _ _ _ ready _ _ r (rw (← back) at l.invariant.unmarked) c.close-x.ensures.others;
     }
 
 pub loop-r-preserved : goal.loop-r-preserved
@@ -84,7 +81,7 @@ loop-r-preserved g c =
     record {
       counted =
           rw (c.has_any.ensures, c.any_weight.ensures)
-          (counted_root a.nodes.now a.wires.now a.obstacles.now a.c.now ready a.limit r inside l.k l.b c.close-x.new.cut_any c.close-x.result c.close-x.ensures
-          (omega arith) (omega arith) (omega arith) (omega arith) (rw back l.invariant.counted) (lo_is a.c.now.cuttable r _ c.in_default.is stored));
-      unmarked = unmarked_less a.nodes.now a.wires.now a.obstacles.now a.c.now ready l.k.cut_any c.close-x.new.cut_any r (rw back l.invariant.unmarked) c.close-x.ensures.others;
+          (counted_root _ _ _ _ ready _ r inside _ _ _ _ c.close-x.ensures
+          (omega arith) (omega arith) (omega arith) (omega arith) (rw (← back) at l.invariant.counted) (lo_is a.c.now.cuttable r _ c.in_default.is stored));
+      unmarked = unmarked_less _ _ _ _ ready _ _ r (rw (← back) at l.invariant.unmarked) c.close-x.ensures.others;
     }
