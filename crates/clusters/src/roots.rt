@@ -1,6 +1,6 @@
 // Nodes that stay together, by their lowest node: the root of a cluster, which no cut parts; the lowest node of an uncut component; and the host of a branch, the root of the cluster that it hangs on.
-// Sections, with `Wired nodes wires` and `wire_bytes * i ≤ length wires`: any net that is wired will do, and a `Net` would ask more of callers.
-// `leader`, `root`, `component`, `cuttable` and `host` are lent one by one, one written while others are read: with all in one struct, each contract would have to say which of them stay, no plainer. No heap, fixed memory.
+// Sections, with `Wired nodes wires`, `wire_bytes * i ≤ length wires` and `i < length cuttable`: any net that is wired will do, and a `Net` would ask more of callers.
+// `leader`, `root`, `component`, `cuttable` and `host` are lent one by one, each with a clause that it holds all nodes, one written while others are read: with all in one struct, each contract would have to say which of them stay, no plainer. No heap, fixed memory.
 ghost use Rattle.std.specs.Prelude.{◌≡◌, Bool, true, cond, ℕ, ◌*◌, ◌<◌, ◌≤◌, length, get_or};
 ghost use Rattle.net.specs.Layout.{wire_bytes};
 ghost use Rattle.net.specs.Net.{node_count, wire_parent};
