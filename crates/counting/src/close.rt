@@ -1,7 +1,7 @@
 // Closing a cluster in the pass down: the fewest points below it, and the weight that they leave.
 // A cluster has two options. The any-option cuts the heaviest branches until the weight is within the limit; it is not there if the fixed weight alone is over the limit.
 // The ungated option cuts every branch that cannot come without a gate, and may then weigh anything; it is not there if the cluster has a gate.
-// `c`, `b` and `r`, with `HungAbove` of them, go from function to function: tried as one struct with a ghost field and these as methods; it proved, and a chain of 256 nodes without obstacles took 1.21 of before.
+// `c`, `b` and `r`, with `HungAbove` of them, go from function to function: tried as one struct with a ghost field and these as methods; it proved, and repair of a chain of 256 nodes without obstacles took 1.21 of before, with these 0.93.
 ghost use Rattle.std.specs.Prelude.{◌≡◌, ◌+◌, ◌<◌, ◌≤◌, ◌^◌, get_or};
 ghost use Rattle.std.specs.Option.{IfSome};
 ghost use Rattle.clusters.specs.Positions.{los};
@@ -99,7 +99,7 @@ fn heaviest<const N: usize>(
     ensures inside { IfSome result (λ j. j < c.now.n) }
 {
     let mut at = None;
-    // the weight of none is 0, which the test needs too: an Option of both would be opened at each branch, no plainer
+    // the weight of none is 0, which the test needs too: an Option of both would be opened at each branch, and by filter and max_by_key both closures would need clauses longer than this loop, no plainer
     let mut weight = 0;
     for j in r + 1..c.n {
         if heavier(c, b, cut_any, r, weight, j) {
