@@ -33,8 +33,10 @@ def show(kind, places):
             print("   ", p)
 
 
+# what a comment says counts in the second row alone
 for kind, pattern in kinds.items():
-    show(kind, [f"{f}:{n}: {l.strip()[:110]}" for f, s in text.items() for n, l in enumerate(s.split("\n"), 1) if re.search(pattern, l)])
+    of_comments = kind == "1 a number that means none"
+    show(kind, [f"{f}:{n}: {l.strip()[:110]}" for f, s in text.items() for n, l in enumerate(s.split("\n"), 1) if re.search(pattern, l if of_comments else l.split("//")[0])])
 
 structs = [(f, m.group(1), m.group(2)) for f, t in text.items() for m in re.finditer(r"^(?:pub )?struct (\w+)[^{;]*\{(.*?)^\}", t, re.S | re.M)]
 show("1 flags of a struct", [f"{f}: {name}.{flag}" for f, name, body in structs for flag in re.findall(r"(\w+): bool,", body)])

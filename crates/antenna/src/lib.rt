@@ -13,7 +13,7 @@ use def::Written;
 use net::refusal::Refusal;
 
 // Reads a net file alone: 2 to 11 and 20, or the number of nodes.
-pub fn antenna_read(file: &[u8]) -> Result<u64, Refusal>
+pub fn antenna_read(file: &[u8]) -> Result<usize, Refusal>
     ensures { answered result ≡ read_answer file.now }
 {
     net::read::read(file)
@@ -26,7 +26,7 @@ pub fn antenna_write(
     wires: &[u8],
     obstacles: &[u8],
     out: &mut [u8],
-) -> Result<u64, Refusal>
+) -> Result<usize, Refusal>
     ensures { (answered result ≡ write_answer version nodes.now wires.now obstacles.now (length out.old)) × (out.new ≡ write_buffer version nodes.now wires.now obstacles.now out.old) }
 {
     net::write::write(version, nodes, wires, obstacles, out)
@@ -39,14 +39,14 @@ pub fn antenna_report(
     file: &[u8],
     jumpers: &[u8],
     out: &mut [u8],
-) -> Result<u64, Refusal>
+) -> Result<usize, Refusal>
     ensures { (answered result ≡ report_answer stage file.now jumpers.now (length out.old)) × (out.new ≡ report_buffer stage limit file.now jumpers.now out.old) }
 {
     reports::one_pass::report(stage, limit, file, jumpers, out)
 }
 
 // Finds a smallest legal jumper set of a net at a stage under a limit: 1, 2 to 11 and 20, 15, 16, or the number of jumpers written.
-pub fn antenna_repair(stage: u32, limit: u32, file: &[u8], out: &mut [u8]) -> Result<u64, Refusal>
+pub fn antenna_repair(stage: u32, limit: u32, file: &[u8], out: &mut [u8]) -> Result<usize, Refusal>
     ensures { Repaired stage limit file.now out.old out.new (answered result) }
 {
     repairs::repair(stage, limit, file, out)

@@ -66,10 +66,10 @@ pub extern "C" fn antenna_def(
 {
     match antenna::antenna_def(text, place, pins, obstacles, out) {
         Ok(file) => Answer {
-            // the C interface: 0 is done, and the place is that after `;`
+            // the C interface: 0 is done, and the place is that after `;`. `as`: std has no From of usize to u64
             number: 0,
             place: file.end as u64,
-            count: file.bytes,
+            count: file.bytes as u64,
         },
         Err(refusal) => Err(refusal).into(),
     }

@@ -25,7 +25,7 @@ pub mod sections;
 #[derive(Clone, Copy)]
 pub struct Written {
     pub end: usize,
-    pub bytes: u64,
+    pub bytes: usize,
 }
 
 // Reads the routing from a place on, and writes its net file: 17 or 18, 19, 4 to 11, 16, or the place after `;` and the number of bytes written.
@@ -54,7 +54,12 @@ pub fn def(
 }
 
 // The net file of the nodes with their flags, or the first of 4 to 11 and 16.
-fn write_net(nodes: &[Node], flags: &[u8], obstacles: &[u8], out: &mut [u8]) -> Result<u64, Refusal>
+fn write_net(
+    nodes: &[Node],
+    flags: &[u8],
+    obstacles: &[u8],
+    out: &mut [u8],
+) -> Result<usize, Refusal>
     requires { (1 ≤ length nodes.now) × (length nodes.now ≤ most_nodes) × (length nodes.now ≤ length flags.now) }
     ensures { (answered result ≡ write_answer 1 (flagged_nodes nodes.now flags.now) (wire_section nodes.now) obstacles.now (length out.old)) × (out.new ≡ write_buffer 1 (flagged_nodes nodes.now flags.now) (wire_section nodes.now) obstacles.now out.old) }
 {

@@ -1,4 +1,4 @@
-// Pins: 19, and the flags they give to nodes. `as` stays: std has no From of usize.
+// Pins: 19, and the flags they give to nodes.
 ghost use Rattle.std.specs.Prelude.{◌≡◌, true, ℕ, ◌+◌, ◌*◌, ◌≤◌, length, get_or, OnOk};
 ghost use Rattle.net.specs.Layout.{most_nodes};
 ghost use Rattle.net.specs.Numbers.{checked};
@@ -32,7 +32,7 @@ pub fn join_pins(
         let at = PIN_BYTES * k;
         let pin = &pins[at..];
         if pin.len() < PIN_BYTES || !join_pin(reader, points, nodes, pin, flags) {
-            return Err(Refusal::Pin(k as u64));
+            return Err(Refusal::Pin(k));
         }
     }
     Ok(())

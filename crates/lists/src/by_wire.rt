@@ -26,7 +26,7 @@ fn present_length(net: Net, stage: u8, i: usize) -> u32
 }
 
 // Position t of wire i; `length` is that of the wire, or 0 where the stage does not have it: 13, 14.
-fn position_refusal(net: Net, i: usize, length: u32, t: u32, place: u64) -> Result<(), Refusal>
+fn position_refusal(net: Net, i: usize, length: u32, t: u32, place: usize) -> Result<(), Refusal>
     requires { 0 < length → Checked net.nodes.now net.wires.now i × (length ≡ wire_length net.nodes.now net.wires.now i) }
     ensures { checked result ≡ position_refusal net.entry.version net.entry.nodes.now net.entry.wires.now net.entry.obstacles.now i length t place }
 {
@@ -57,14 +57,14 @@ pub fn list_refusal(net: Net, stage: u8, list: &[u8]) -> Result<(), Refusal>
         let t = entry_position(list, e);
         if i != wire {
             if i < wire {
-                return Err(Refusal::ListOrder(e as u64));
+                return Err(Refusal::ListOrder(e));
             }
             wire = i;
             length = present_length(net, stage, i);
         } else if t < from {
-            return Err(Refusal::ListOrder(e as u64));
+            return Err(Refusal::ListOrder(e));
         }
-        position_refusal(net, i, length, t, e as u64)?;
+        position_refusal(net, i, length, t, e)?;
         from = t + 1;
     }
     Ok(())

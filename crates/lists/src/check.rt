@@ -36,7 +36,7 @@ fn lies_inside(net: Net, stage: u8, i: usize, t: u32) -> bool
 }
 
 // Position t of wire i: 13, 14.
-pub fn point_refusal(net: Net, stage: u8, i: usize, t: u32, place: u64) -> Result<(), Refusal>
+pub fn point_refusal(net: Net, stage: u8, i: usize, t: u32, place: usize) -> Result<(), Refusal>
     ensures { checked result ≡ point_refusal (stage_of_net net.entry stage) i t place }
 {
     if !lies_inside(net, stage, i, t) {
@@ -54,11 +54,11 @@ fn entry_refusal(net: Net, stage: u8, list: &[u8], e: usize) -> Result<(), Refus
     ensures { checked result ≡ entry_refusal (stage_of_net net.entry stage) list.now e }
 {
     if !is_after(list, e) {
-        return Err(Refusal::ListOrder(e as u64));
+        return Err(Refusal::ListOrder(e));
     }
     let i = entry_wire(list, e);
     let t = entry_position(list, e);
-    point_refusal(net, stage, i, t, e as u64)
+    point_refusal(net, stage, i, t, e)
 }
 
 // 12 on the length of a list, then each entry in order.

@@ -3,7 +3,7 @@
 
 // by_wire and doubling find by another method what check and wire find, not for another type, size or constant: each is public with the same promise, and one
 // function would have to hold both methods, no plainer. Which stay is for the request on the report in one pass to say.
-// `e < entry_count ..` bounds a read in place. Numbers of entries are made 64-bit numbers by `as`: std has no `From` between usize and u64.
+// `e < entry_count ..` bounds a read in place.
 pub mod by_wire;
 pub mod check;
 pub mod doubling;

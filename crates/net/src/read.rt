@@ -1,6 +1,5 @@
 // The reader: the first refusal met in a net file, or in three sections.
 // The sections come one by one, from a file or from C, and are a Net only when they are accepted: so the functions before that take each.
-// A place is the record's number by `as`: std has no From of usize to u64, and try_from would add a branch that gives up.
 ghost use Rattle.std.specs.Prelude.{◌≡◌, ◌+◌, ◌-◌, ◌*◌, ◌<◌, ◌≤◌, length, IfOk};
 ghost use Rattle.net.specs.Layout.{wire_bytes};
 ghost use Rattle.net.specs.Net.{node_count, obstacle_count};
@@ -15,11 +14,11 @@ use crate::refusal::Refusal;
 use crate::sections::{Section, head_and_pairs_refusal, stretch, version};
 
 // Accepted with the count of its nodes, or the first of 2 to 11 and 20 that the file meets.
-pub fn read(file: &[u8]) -> Result<u64, Refusal>
+pub fn read(file: &[u8]) -> Result<usize, Refusal>
     ensures { answered result ≡ read_answer file.now }
 {
     let net = net_of(file)?;
-    Ok(node_count(net.nodes) as u64)
+    Ok(node_count(net.nodes))
 }
 
 // The net of a file, or the first of 2 to 11 and 20.
@@ -87,7 +86,7 @@ fn nodes_refusal(nodes: &[u8]) -> Result<(), Refusal>
 {
     for i in 0..node_count(nodes) {
         if MOST_FLAGS < node_at(nodes, i).flags {
-            return Err(Refusal::NodeFlags(i as u64));
+            return Err(Refusal::NodeFlags(i));
         }
     }
     Ok(())
@@ -100,15 +99,15 @@ fn wire_refusal(nodes: &[u8], wires: &[u8], i: usize) -> Result<(), Refusal>
 {
     let wire = wire_at(wires, i);
     if i <= wire.parent {
-        return Err(Refusal::WireParent(i as u64));
+        return Err(Refusal::WireParent(i));
     }
     if wire.layer == 0 || MOST_LAYERS < wire.layer || wire.factor == 0 {
-        return Err(Refusal::WireLayerOrFactor(i as u64));
+        return Err(Refusal::WireLayerOrFactor(i));
     }
     let node = node_at(nodes, i);
     let parent = node_at(nodes, wire.parent);
     if node.x != parent.x && node.y != parent.y {
-        return Err(Refusal::WireOblique(i as u64));
+        return Err(Refusal::WireOblique(i));
     }
     Ok(())
 }
@@ -131,10 +130,10 @@ fn obstacle_refusal(version: u16, obstacles: &[u8], k: usize) -> Result<(), Refu
 {
     let obstacle = obstacle_at(version, obstacles, k);
     if obstacle.x2 < obstacle.x1 || obstacle.y2 < obstacle.y1 {
-        return Err(Refusal::ObstacleCorners(k as u64));
+        return Err(Refusal::ObstacleCorners(k));
     }
     if obstacle.layer == 0 || MOST_LAYERS < obstacle.layer {
-        return Err(Refusal::ObstacleLayer(k as u64));
+        return Err(Refusal::ObstacleLayer(k));
     }
     Ok(())
 }

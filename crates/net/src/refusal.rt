@@ -14,20 +14,20 @@ pub enum Refusal {
     NodeSection,
     WireSection,
     ObstacleSection,
-    NodeFlags(u64),
-    WireParent(u64),
-    WireLayerOrFactor(u64),
-    WireOblique(u64),
-    ObstacleCorners(u64),
-    ListOrder(u64),
-    JumperOutside(u64),
-    JumperBarred(u64),
+    NodeFlags(usize),
+    WireParent(usize),
+    WireLayerOrFactor(usize),
+    WireOblique(usize),
+    ObstacleCorners(usize),
+    ListOrder(usize),
+    JumperOutside(usize),
+    JumperBarred(usize),
     NoLegalSet,
-    LentBuffer(u64),
-    RouteForm(u64),
-    RoutePoint(u64),
-    Pin(u64),
-    ObstacleLayer(u64),
+    LentBuffer(usize),
+    RouteForm(usize),
+    RoutePoint(usize),
+    Pin(usize),
+    ObstacleLayer(usize),
 }
 
 impl Refusal {
@@ -59,7 +59,7 @@ impl Refusal {
         }
     }
 
-    // The record, the bytes needed or the place in the text; else 0.
+    // The record, the bytes needed or the place in the text; else 0. `as`: std has no From of usize to u64, and try_from would add a branch that gives up.
     pub fn place(self) -> u64
         ensures { result ≡ place_of self }
     {
@@ -76,7 +76,7 @@ impl Refusal {
             | Refusal::RouteForm(i)
             | Refusal::RoutePoint(i)
             | Refusal::Pin(i)
-            | Refusal::ObstacleLayer(i) => i,
+            | Refusal::ObstacleLayer(i) => i as u64,
             Refusal::StageOutside
             | Refusal::Head
             | Refusal::Pairs
@@ -88,16 +88,16 @@ impl Refusal {
     }
 }
 
-impl From<Result<u64, Refusal>> for Answer {
+impl From<Result<usize, Refusal>> for Answer {
     ghost from_gives = { λ r a. a ≡ answered r };
 
-    fn from(r: Result<u64, Refusal>) -> Answer {
+    fn from(r: Result<usize, Refusal>) -> Answer {
         match r {
             Ok(count) => Answer {
                 // the C interface: 0 is done
                 number: 0,
                 place: 0,
-                count,
+                count: count as u64,
             },
             Err(refusal) => Answer {
                 number: refusal.number(),

@@ -21,7 +21,7 @@ pub fn write(
     wires: &[u8],
     obstacles: &[u8],
     out: &mut [u8],
-) -> Result<u64, Refusal>
+) -> Result<usize, Refusal>
     ensures { (answered result ≡ write_answer version nodes.now wires.now obstacles.now (length out.old)) × (out.new ≡ write_buffer version nodes.now wires.now obstacles.now out.old) }
 {
     if !is_version(version) {
@@ -32,10 +32,10 @@ pub fn write(
     net_refusal(file_version, nodes, wires, obstacles)?;
     let needed = HEAD_BYTES + nodes.len() + wires.len() + obstacles.len();
     if out.len() < needed {
-        return Err(Refusal::LentBuffer(needed as u64));
+        return Err(Refusal::LentBuffer(needed));
     }
     write_file(file_version, nodes, wires, obstacles, out);
-    Ok(needed as u64)
+    Ok(needed)
 }
 
 // Head, nodes, wires and obstacles, one behind the other.

@@ -12,15 +12,15 @@ use net::refusal::Refusal;
 use std::io;
 use std::io::{Read, Write};
 
-// `jumpers` and the count, then the list; or the refusal. `as` on the count: std has no From of u64 to usize, and try_from would add a branch that gives up.
-fn print_answer<W: Write>(to: &mut W, answer: Result<u64, Refusal>, out: &[u8]) -> io::Result<()>
+// `jumpers` and the count, then the list; or the refusal.
+fn print_answer<W: Write>(to: &mut W, answer: Result<usize, Refusal>, out: &[u8]) -> io::Result<()>
     requires { IfOk answer (λ n. entry_bytes * n ≤ length out.now) }
     ensures { OnOk result (Appends (W.contents to.old) (W.contents to.new) (answer_lines (answered answer) out.now)) }
 {
     match answer {
         Ok(count) => {
             writeln!(to, "jumpers {count}")?;
-            console::print_list(to, &out[..ENTRY_BYTES * (count as usize)])
+            console::print_list(to, &out[..ENTRY_BYTES * count])
         }
         Err(refusal) => console::print_refusal(to, refusal.number(), refusal.place()),
     }

@@ -1,5 +1,5 @@
 // Repair: what the call tries in order, and the passes behind it.
-// The three `as`: std has no From between usize and u64, nor from u32 to u8, and try_from would add a branch that gives up, where the stage is proved to fit.
+// The two `as`: std has no From of u64 to usize, nor of u32 to u8, and try_from would add a branch that gives up, where stage and points are proved to fit.
 #![tactic(auto)]
 
 ghost use Rattle.std.specs.Prelude.{◌≡◌};
@@ -24,7 +24,7 @@ use net::refusal::Refusal;
 use obstacles::{PREPARED_BYTES, is_prepared, prepare};
 
 // Repair on a net file at a stage: 1, 2 to 11 and 20; then, on the net that is accepted, 15, 16, or the list.
-pub fn repair(stage: u32, limit: u32, file: &[u8], out: &mut [u8]) -> Result<u64, Refusal>
+pub fn repair(stage: u32, limit: u32, file: &[u8], out: &mut [u8]) -> Result<usize, Refusal>
     ensures { Repaired stage limit file.now out.old out.new (answered result) }
 {
     let net = accepted_net(stage, file)?;
@@ -32,7 +32,7 @@ pub fn repair(stage: u32, limit: u32, file: &[u8], out: &mut [u8]) -> Result<u64
 }
 
 // Repair on a net of any version: the passes see its obstacles in the form of the newest one. A net that has that form pays for no room.
-fn repair_version(net: Net, stage: u8, limit: u64, out: &mut [u8]) -> Result<u64, Refusal>
+fn repair_version(net: Net, stage: u8, limit: u64, out: &mut [u8]) -> Result<usize, Refusal>
     ensures { Judged (stage_of_net net.entry stage) limit out.old out.new (answered result) }
 {
     if is_prepared(net.version, net.obstacles) {
@@ -50,7 +50,7 @@ fn repair_prepared(
     stage: u8,
     limit: u64,
     out: &mut [u8],
-) -> Result<u64, Refusal>
+) -> Result<usize, Refusal>
     requires { net_refusal newest net.nodes.now net.wires.now obstacles.now ≡ none }
     ensures { Judged (stage_of newest net.entry.nodes.now net.entry.wires.now obstacles.now stage) limit out.old out.new (answered result) }
 {
@@ -64,7 +64,7 @@ fn repair_prepared(
 }
 
 // Repair on a net of the newest version: 15 where a cluster is hopeless, 16 where the fewest points need more bytes than lent, or the list of the points chosen.
-pub fn repair_net(net: Net, stage: u8, limit: u64, out: &mut [u8]) -> Result<u64, Refusal>
+pub fn repair_net(net: Net, stage: u8, limit: u64, out: &mut [u8]) -> Result<usize, Refusal>
     requires { net.version ≡ newest }
     ensures { Judged (stage_of_net net.entry stage) limit out.old out.new (answered result) }
 {
@@ -82,9 +82,9 @@ pub fn repair_net(net: Net, stage: u8, limit: u64, out: &mut [u8]) -> Result<u64
         &clusters,
         limit,
         &mut counts,
-    );
-    let needed = (ENTRY_BYTES as u64) * points;
-    if (out.len() as u64) < needed {
+    ) as usize;
+    let needed = ENTRY_BYTES * points;
+    if out.len() < needed {
         return Err(Refusal::LentBuffer(needed));
     }
     let mut cut_high = [false; MOST_NODES];

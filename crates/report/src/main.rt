@@ -12,13 +12,13 @@ use net::refusal::Refusal;
 use std::io;
 use std::io::{Read, Write};
 
-// The records; or the refusal. `as` on the count: std has no From of u64 to usize, and try_from would add a branch that gives up.
-fn print_answer<W: Write>(to: &mut W, answer: Result<u64, Refusal>, out: &[u8]) -> io::Result<()>
+// The records; or the refusal.
+fn print_answer<W: Write>(to: &mut W, answer: Result<usize, Refusal>, out: &[u8]) -> io::Result<()>
     requires { IfOk answer (λ n. record_bytes * n ≤ length out.now) }
     ensures { OnOk result (Appends (W.contents to.old) (W.contents to.new) (answer_lines (answered answer) out.now)) }
 {
     match answer {
-        Ok(count) => console::print_records(to, &out[..RECORD_BYTES * (count as usize)]),
+        Ok(count) => console::print_records(to, &out[..RECORD_BYTES * count]),
         Err(refusal) => console::print_refusal(to, refusal.number(), refusal.place()),
     }
 }

@@ -30,7 +30,7 @@ pub fn report(
     file: &[u8],
     jumpers: &[u8],
     out: &mut [u8],
-) -> Result<u64, Refusal>
+) -> Result<usize, Refusal>
     ensures { (answered result ≡ report_answer stage file.now jumpers.now (length out.old))
         × (out.new ≡ report_buffer stage limit file.now jumpers.now out.old) }
 {

@@ -29,15 +29,14 @@ pub(crate) trait Steps {
 }
 
 // What is tried, in order: 1, 2 to 11 and 20, 12 to 14, 16; then the records are written, and their number is answered. Two public calls call it, each with
-// its own steps, and each carries its promise. The stage as a byte is proved to fit, where `try_from` would add a branch that gives up; std has no `From` between
-// usize and u64.
+// its own steps, and each carries its promise. The stage as a byte is proved to fit, where `try_from` would add a branch that gives up.
 pub(crate) fn report_by<S: Steps>(
     stage: u32,
     limit: u32,
     file: &[u8],
     jumpers: &[u8],
     out: &mut [u8],
-) -> Result<u64, Refusal>
+) -> Result<usize, Refusal>
     ensures { (answered result ≡ report_answer stage file.now jumpers.now (length out.old))
         × (out.new ≡ report_buffer stage limit file.now jumpers.now out.old) }
 {
@@ -53,10 +52,10 @@ pub(crate) fn report_by<S: Steps>(
     let records = piece_count(with_jumpers);
     let needed = RECORD_BYTES * records;
     if out.len() < needed {
-        return Err(Refusal::LentBuffer(needed as u64));
+        return Err(Refusal::LentBuffer(needed));
     }
     S::write(with_jumpers, limit, out);
-    Ok(records as u64)
+    Ok(records)
 }
 
 // Entry after entry is checked by itself, and the pieces are gathered before their records are written.
@@ -79,7 +78,7 @@ pub fn report(
     file: &[u8],
     jumpers: &[u8],
     out: &mut [u8],
-) -> Result<u64, Refusal>
+) -> Result<usize, Refusal>
     ensures { (answered result ≡ report_answer stage file.now jumpers.now (length out.old))
         × (out.new ≡ report_buffer stage limit file.now jumpers.now out.old) }
 {

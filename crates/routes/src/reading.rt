@@ -1,5 +1,4 @@
 // The route read point by point: 17, 18 and its nodes. Functions on the text and a place in it: document 01 names the form.
-// `as` stays: std has no From of usize, and where a number gets narrower it is proved to fit, and try_from would add a branch that gives up.
 ghost use Rattle.std.specs.Prelude.{◌≡◌, cond, List, ◌∷◌, is_some, is_none, length};
 ghost use Rattle.paths.specs.Again.{first_read};
 ghost use Rattle.paths.specs.Form.{points_of};
@@ -19,7 +18,7 @@ pub fn read_route(text: &[u8], place: usize) -> Result<Route, Refusal>
     let mut nodes = [Node::default(); MOST_NODES];
     let mut found = Some(Found { count: 0, last: 0 });
     let mut points = 0;
-    let mut read = begin(text, start_of(text, place)).map_err(|w| Refusal::RouteForm(w.0 as u64))?;
+    let mut read = begin(text, start_of(text, place)).map_err(|w| Refusal::RouteForm(w.0))?;
     // until the text ends or leaves the form: no index
     loop {
         match read {
@@ -34,7 +33,7 @@ pub fn read_route(text: &[u8], place: usize) -> Result<Route, Refusal>
             Read::Whole(p, next) => {
                 found = take_point(text, place, points, &mut nodes, found, p)?;
                 points += 1;
-                read = next_point(text, next, p).map_err(|w| Refusal::RouteForm(w.0 as u64))?;
+                read = next_point(text, next, p).map_err(|w| Refusal::RouteForm(w.0))?;
             }
         }
     }
@@ -52,7 +51,7 @@ fn take_point(
     requires { (length nodes.old ≡ 256) × ((rest : List Point) × Reached (points_of text.now place) (p ∷ rest) points found nodes.old) }
     ensures { (rest : List Point) → Reached (points_of text.now place) (p ∷ rest) points found nodes.old → Took (points_of text.now place) rest points p result nodes.new }
 {
-    let refused = Refusal::RoutePoint(p.at as u64);
+    let refused = Refusal::RoutePoint(p.at);
     let Some(f) = found else {
         if is_refused(text, place, points, p) {
             return Err(refused);
@@ -70,6 +69,7 @@ fn take_point(
                 x: p.x,
                 y: p.y,
                 layer: p.layer,
+                // below 256, as is proved; try_from would add a branch that gives up
                 parent: parent as u8,
                 wire,
             };

@@ -4,7 +4,8 @@ use mathlib.Core.Path.{◌∙◌, refl}
 use native.Mathlib.Omega.{arith}
 use Rattle.net.specs.First.{first-start, first_more, first-here, first-all}
 use Rattle.net.specs.Answered.{met_refusal}
-use Rattle.std.proofs.lemmas.Result.{err_from_is_err_and}
+use Rattle.laws.specs.Results.{err_passed}
+use Rattle.net.specs.Numbers.{checked}
 use Rattle.lists.specs.EntriesByWire.{OnWire, wire_before, position_from, length_wire_0, after_lower, after_not_from, on_later, on_same, on_wire_checked, on_wire_refusal, wire-next, position-next}
 use Rattle.lists.specs.EntriesChecked.{wires-checked, entry_not_after, list_not_threes, list_entries}
 use Rattle.lists.proofs.by_wire.list_refusal.Goals as goal
@@ -47,8 +48,7 @@ pub returns-in_err-position_refusal : goal.returns-in_err-position_refusal
 returns-in_err-position_refusal c =
     let on = on-wire (goal.at.returns-in_err-position_refusal c).Joined-i-wire in
     let refusal = on_wire_refusal _ _ _ _ _ _ _ on c.entry_wire-i.ensures c.entry_position-t.ensures c.in_err-position_refusal.ensures in
-    let p = err_from_is_err_and c.from_residual.result c.from_residual.ensures.1 in
-    rw (p.1, p.2) (list_entries _ _ c.if-list-ne0.false (first-here _ _ _ (omega arith) c.loop-e.invariant.0 refusal (met_refusal _)))
+    err_passed checked _ c.from_residual.ensures.1 (list_entries _ _ c.if-list-ne0.false (first-here _ _ _ (omega arith) c.loop-e.invariant.0 refusal (met_refusal _)))
 
 pub loop-e-preserved : goal.loop-e-preserved
 loop-e-preserved c =

@@ -1,7 +1,8 @@
 -- `lists::check::list_refusal` meets its contract.
 -- Assumes nothing.
 use native.Mathlib.Omega.{arith}
-use Rattle.std.proofs.lemmas.Result.{err_from_is_err_and}
+use Rattle.laws.specs.Results.{err_passed}
+use Rattle.net.specs.Numbers.{checked}
 use Rattle.net.specs.First.{first-start, first_more, first-here, first-all}
 use Rattle.net.specs.Answered.{met_refusal}
 use Rattle.lists.specs.EntriesChecked.{list_not_threes, list_entries}
@@ -15,7 +16,7 @@ loop-e-init c = first-start _
 
 pub returns-in_err-entry_refusal : goal.returns-in_err-entry_refusal
 returns-in_err-entry_refusal c =
-    let p = err_from_is_err_and c.from_residual.result c.from_residual.ensures.1 in rw (p.1, p.2) (list_entries _ _ c.if-list-ne0.false (first-here _ _ _ (omega arith) c.loop-e.invariant c.in_err-entry_refusal.ensures (met_refusal _)))
+    err_passed checked _ c.from_residual.ensures.1 (list_entries _ _ c.if-list-ne0.false (first-here _ _ _ (omega arith) c.loop-e.invariant c.in_err-entry_refusal.ensures (met_refusal _)))
 
 pub loop-e-preserved : goal.loop-e-preserved
 loop-e-preserved c = first_more _ _ c.loop-e.invariant c.in_ok-entry_refusal.ensures
