@@ -22,7 +22,7 @@ kinds = {
 
 
 def functions(source):
-    for m in re.finditer(r"^\s*(?:pub )?(?:extern \"C\" )?fn (\w+)(?:<[^(]*>)?\(([^)]*)\)(.*?)^\s*\{", source, re.S | re.M):
+    for m in re.finditer(r"^\s*(?:pub(?:\(crate\))? )?(?:extern \"C\" )?fn (\w+)(?:<[^(]*>)?\(([^)]*)\)(.*?)^\s*\{", source, re.S | re.M):
         yield m.group(1), m.group(2), m.group(3)
 
 

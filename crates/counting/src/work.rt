@@ -4,7 +4,7 @@ ghost use Rattle.std.specs.Prelude.{◌≡◌, false, replicate};
 
 use clusters::work::Jumper;
 
-// What the pass down finds.
+// What the pass down finds. One array of structs would take 48 bytes a node in place of 42, and repair would then need more stack than include/antenna.h states.
 #[derive(Drop)]
 pub struct Counts<const N: usize> {
     // branches that the any-option of their host cuts
@@ -37,7 +37,7 @@ impl<const N: usize> Counts<N> {
     }
 }
 
-// What else climbing finds of branches, as far as closing their hosts reads it.
+// What else climbing finds of branches, as far as closing their hosts reads it. Two arrays: `lightest` is read alone wherever branches are compared, and each clause on either would have to take it out of an array of structs first, no plainer.
 #[derive(Drop)]
 pub struct Branches<const N: usize> {
     // the fewest points below and on a branch's wire

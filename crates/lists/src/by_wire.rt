@@ -42,7 +42,7 @@ fn position_refusal(net: Net, i: usize, length: u32, t: u32, place: usize) -> Re
 // 12 on the length of a list, then each entry in order: 12, then 13 and 14 on its point. Of the entry before, `wire` is its wire, `from` the position behind it
 // and `length` the length of its wire, which is computed once for entries in a row on one wire. Where there is none before, the zeros are true of wire 0: node 0
 // has no wire, so its length is 0 and every position stands behind it. An `Option` of a struct of the three was tried and proved: a report of 65,000 jumpers on
-// one wire then took 1.37 to 1.50 of the time, by where the linker put the code.
+// one wire then took 1.37 to 1.50 of the time, depending on where in memory the code lay.
 pub fn list_refusal(net: Net, stage: u8, list: &[u8]) -> Result<(), Refusal>
     ensures { checked result ≡ list_refusal (stage_of_net net.entry stage) list.now }
 {

@@ -1,4 +1,4 @@
-// The entries of one wire in an accepted list, found by doubling steps.
+// The entries of one wire in an accepted list, found by doubling steps: most wires have few entries, for which a search that halves the rest of the list would look far away first.
 ghost use Rattle.std.specs.Prelude.{◌≡◌, true, false, ℕ, ◌+◌, ◌*◌, ◌/◌, ◌<◌, ◌≤◌};
 ghost use Rattle.pieces.specs.Legal.{entry_wire};
 ghost use Rattle.pieces.specs.JumperList.{entry_count};

@@ -120,6 +120,7 @@ pub fn obstacle_bytes(version: u16) -> usize
 pub fn obstacle_count(version: u16, obstacles: &[u8]) -> usize
     ensures { result ≡ obstacle_count version obstacles.now }
 {
+    // not by obstacle_bytes: divided by a constant, the machine does not divide; so read of 5 nodes took 1.29 of the time before the design pass, with this 1.17
     if version == FIRST_VERSION {
         obstacles.len() / FIRST_OBSTACLE_BYTES
     } else {

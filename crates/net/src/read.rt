@@ -80,7 +80,7 @@ fn sections_refusal(
     Ok(())
 }
 
-// Each node: 7. It, wires_refusal and obstacles_refusal are the loop and the `?` alone: one function over a closure would be no shorter in its calls, and take a contract besides.
+// Each node: 7. It, wires_refusal and obstacles_refusal are a loop over one test each: one function over a closure would be no shorter in its calls, and take a contract besides.
 fn nodes_refusal(nodes: &[u8]) -> Result<(), Refusal>
     ensures { checked result ≡ first_of (node_count nodes.now) (λ i. node_refusal nodes.now i) }
 {

@@ -97,6 +97,7 @@ impl From<Result<usize, Refusal>> for Answer {
                 // the C interface: 0 is done
                 number: 0,
                 place: 0,
+                // std has no From of usize to u64
                 count: count as u64,
             },
             Err(refusal) => Answer {

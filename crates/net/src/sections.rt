@@ -90,7 +90,8 @@ fn head_refusal(file: &[u8]) -> Result<(), Refusal>
 }
 
 // The offset of a section's pair. `as`, here and in `extent`: std has no From of u32 to usize.
-// `version` and `stretch` are public and ask for a head of any bytes; a struct for files with one would take that clause from four private functions here, and be longer than the clauses.
+// `version` is public and asks for a head of any bytes; a struct for files with one would take that clause from four private functions here, and be longer than the clauses.
+// It and `extent` stay two: each is one number read, and one function of a place would leave both names as calls of it.
 fn offset(file: &[u8], of: Section) -> usize
     requires { head_bytes ≤ length file.now }
     ensures { (result ≡ offset file.now (index_of of)) × (result < 4294967296) }

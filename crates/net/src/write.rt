@@ -98,7 +98,7 @@ fn copy_two(first: &[u8], second: &[u8], out: &mut [u8])
     copy(second, &mut out[at..]);
 }
 
-// The low 32 bits of a number.
+// The low 32 bits of a number: masked, it fits, and try_from would add a branch that gives up.
 fn put32(number: usize, out: &mut [u8])
     requires { 4 ≤ length out.old }
     ensures { out.new ≡ over (bytes32 number) out.old }

@@ -38,7 +38,7 @@ pub fn start_of(text: &[u8], place: usize) -> usize
     place.min(text.len())
 }
 
-// `+ ROUTED` and the first path's first point. It, next_point and point_from are put into their callers, so that a point is not copied: as calls, they made def of 2 nodes take 1.13 of before, now 1.07.
+// `+ ROUTED` and the first path's first point. It, next_point and point_from are put into their callers, so that a point is not copied: as calls, they made def of 2 nodes take 1.13 of the time before the design pass.
 #[inline(always)]
 #[tactic(auto, unfolding(crate::specs::Form::beginning))]
 pub fn begin(text: &[u8], place: usize) -> Result<Read, Wrong>

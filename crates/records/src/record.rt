@@ -1,4 +1,5 @@
 // The bytes of one piece record. What `as` makes a byte is proved to fit; `try_from` would add a branch that gives up. `record_bytes ≤ length ..` bounds a write.
+// `flags < 4` says that the flags are those of nodes: a type for them would be made at each read of a node and undone at each write, no plainer.
 ghost use Rattle.std.specs.Prelude.{◌≡◌, ◌++◌, ◌<◌, ◌≤◌, length, drop};
 ghost use Rattle.laws.specs.Place.{place};
 ghost use Rattle.net.specs.Layout.{record_bytes, most_nodes};

@@ -1,7 +1,7 @@
 // One node with its wire: what it adds to the records of the nodes and wires below it.
 // `places` holds for each node where the record of its piece stands, `at` is where the records end: no heap, fixed memory. The two as one struct behind a `&mut`
 // were tried and proved, and a report of 2 nodes then took 1.16 of the time; with `limit` and `out` in it too, a struct that holds `&mut out` did not prove. So what
-// writes takes six parameters or more, each from another source. `RecordsFit ..` is about a buffer and `i < most_nodes` about an index, not about one value.
+// writes takes six parameters or more, each from another source. A layer from 1 to 16 is a clause: a type for it would be made at each read of a wire, no plainer. `RecordsFit ..` is about a buffer and `i < most_nodes` about an index, not about one value.
 ghost use Rattle.std.specs.Prelude.{◌≡◌, ℕ, ◌+◌, ◌-◌, ◌*◌, ◌^◌, ◌<◌, ◌≤◌, length, get_or, set, drop, ltb};
 ghost use Rattle.laws.specs.Sum.{χ};
 ghost use Rattle.laws.specs.Place.{place};

@@ -31,7 +31,7 @@ pub fn repair(stage: u32, limit: u32, file: &[u8], out: &mut [u8]) -> Result<usi
     repair_version(net, stage as u8, u64::from(limit), out)
 }
 
-// Repair on a net of any version: the passes see its obstacles in the form of the newest one. A net that has that form pays for no room.
+// Repair on a net of any version: the passes see its obstacles in the form of the newest one. For a net that has that form no room is cleared.
 fn repair_version(net: Net, stage: u8, limit: u64, out: &mut [u8]) -> Result<usize, Refusal>
     ensures { Judged (stage_of_net net.entry stage) limit out.old out.new (answered result) }
 {

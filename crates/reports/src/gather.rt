@@ -1,6 +1,7 @@
 // The pass by rising wire number: it names the pieces with nodes and adds up their weights, flags and layers.
 // `join_wire` and `part_wire` do by another method what those of `records` do, not for another type, size or constant: here the sums stand in an array, there in
 // the records written so far. Both reports are public with the same promise, and one function of each would take the method as a parameter, no plainer.
+// `node_count ≤ length pieces` is about the lent array, which is longer than a net has nodes; a layer from 1 to 16 is a clause, as in `records::wire`.
 ghost use Rattle.std.specs.Prelude.{◌≡◌, ◌+◌, ◌*◌, ◌^◌, ◌<◌, ◌≤◌, length, get_or};
 ghost use Rattle.net.specs.Layout.{most_layers};
 ghost use Rattle.net.specs.Limits.{length_bound, wire_weight_bound};

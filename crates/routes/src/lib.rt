@@ -18,7 +18,7 @@ pub struct Node {
     pub wire: u8,
 }
 
-// A route: the place after `;`, the number of its points, that of its nodes where it has no more than 256, and the first nodes.
+// A route: the place after `;`, the number of its points, that of its nodes where it has no more than 256, and the first nodes, in a table of fixed size: no heap.
 #[derive(Clone, Copy)]
 pub struct Route {
     pub end: usize,

@@ -22,7 +22,7 @@ impl<'a> Reader<'a> {
         read_route(self.text, self.place)
     }
 
-    // Reads again from the reader's place on: which of the first `points` points is the first at x, y on the layer.
+    // Reads again from the reader's place on: which of the first `points` points is the first at x, y on the layer. They are a pin's, of which no struct is made for one call.
     pub fn again(self, points: usize, x: u16, y: u16, layer: u8) -> Option<usize>
         ensures { result ≡ first_read self.entry.text.now self.entry.place points x y layer layer }
     {

@@ -16,6 +16,7 @@ pub fn read_route(text: &[u8], place: usize) -> Result<Route, Refusal>
     ensures { RouteRead text.now place result }
 {
     let mut nodes = [Node::default(); MOST_NODES];
+    // no node is the last yet, and none is asked for: the first point is a path's first, which hangs on no node before it
     let mut found = Some(Found { count: 0, last: 0 });
     let mut points = 0;
     let mut read = begin(text, start_of(text, place)).map_err(|w| Refusal::RouteForm(w.0))?;
