@@ -1,6 +1,6 @@
 // The gates of each cluster that a piece may harm: those of components without a source.
 // Of a net the section of nodes is read, with `i < node_count nodes`: any will do, and a `Net` would ask more of callers.
-// `component`, `root`, `sourced` and `gates` are lent one by one, each with a clause that it holds all nodes, one written while others are read: with all in one struct, each contract would have to say which of them stay, no plainer. No heap, fixed memory.
+// `component`, `root`, `sourced` and `gates` are lent one by one, each with a clause that it holds all nodes, one written while others are read: with all in one struct, each contract would have to say which of them stay, no plainer. No heap, fixed memory. `Falling`: see `marks`.
 ghost use Rattle.std.specs.Prelude.{◌≡◌, false, ℕ, ◌<◌, ◌≤◌, length, get_or};
 ghost use Rattle.net.specs.Net.{node_count};
 ghost use Rattle.clusters.specs.FirstPasses.{Falling, source_in, gate_of, gathered};

@@ -1,5 +1,5 @@
 // The test for 15: a cluster is hopeless if it has a gate that a piece may harm, and fixed weight over the limit. It needs what the first passes left, and nothing else.
-// `hopeless` is an array beside those of the first passes: only this test writes it.
+// `hopeless` is an array beside those of the first passes, which only this test writes: in one struct with them the contract would have to say that they stay, no plainer. `Falling`: see `marks`.
 ghost use Rattle.std.specs.Prelude.{◌≡◌, false, ℕ, ◌<◌, ◌≤◌, length, get_or};
 ghost use Rattle.clusters.specs.FirstPasses.{Falling};
 ghost use Rattle.clusters.specs.Hopeless.{hopeless_at, any_hopeless, hopeless_in};

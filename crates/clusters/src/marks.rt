@@ -1,5 +1,5 @@
 // Components by a property of their nodes, or of the clusters in them, which have the number of their root.
-// `component` and `marks` are lent alone, with n, since they are longer than a net has nodes: the marks are of another array at each call. `Falling` is about `component` as far as n, not about the array.
+// `component` and `marks` are lent alone, since each call marks another array, and with n, since both are longer than a net has nodes. `Falling` is about an array as far as n, not about all of it.
 ghost use Rattle.std.specs.Prelude.{◌≡◌, Bool, false, ℕ, ◌<◌, ◌≤◌, length, get_or};
 ghost use Rattle.laws.specs.Sum.{any};
 ghost use Rattle.clusters.specs.FirstPasses.{Falling, marked};

@@ -1,6 +1,6 @@
 // The fixed weight of each cluster: what no cut takes away from it.
 // Sections, with `Wired nodes wires`, `i < node_count nodes` and `i < length cuttable`: any net that is wired will do, and a `Net` would ask more of callers.
-// `cuttable`, `root`, `host` and `fixed` are lent one by one, each with a clause that it holds all nodes, one written while others are read: with all in one struct, each contract would have to say which of them stay, no plainer. No heap, fixed memory.
+// `cuttable`, `root`, `host` and `fixed` are lent one by one, each with a clause that it holds all nodes, one written while others are read: with all in one struct, each contract would have to say which of them stay, no plainer. No heap, fixed memory. `Falling`: see `marks`.
 ghost use Rattle.std.specs.Prelude.{◌≡◌, ℕ, ◌+◌, ◌<◌, ◌≤◌, length, get_or};
 ghost use Rattle.net.specs.Net.{node_count, wire_length};
 ghost use Rattle.clusters.specs.Positions.{los, his};

@@ -16,7 +16,7 @@ pub struct Jumper {
     ghost positive: { 0 < position },
 }
 
-// What the first passes find of a net with at most N nodes. One array of structs would take 56 bytes a node in place of 53, and with that of Counts repair would need more stack than include/antenna.h states.
+// What the first passes find of a net with at most N nodes. Each pass writes one of these arrays while it reads others: in one array of structs each contract would have to say that the other fields stay, no plainer.
 #[derive(Drop)]
 pub struct Clusters<const N: usize> {
     // the number of nodes: an entry for each node below it
@@ -26,7 +26,7 @@ pub struct Clusters<const N: usize> {
     pub cuttable: [Option<Cuttable>; N],
     // the lowest node of each node's cluster
     pub root: [usize; N],
-    // the root of the cluster that a branch hangs on, 0 for a node that is no branch: cuttable is asked all the same, so an Option would be asked twice
+    // the root of the cluster that a branch hangs on, 0 for a node that is no branch: an Option takes 16 bytes in place of 8, and repair would need more stack than include/antenna.h states
     pub host: [usize; N],
     // the lowest node of each node's uncut component
     pub component: [usize; N],

@@ -59,7 +59,7 @@ pub fn file_of(input: &[u8]) -> &[u8]
     input.get(LEAD_BYTES..).unwrap_or(&[])
 }
 
-// A refusal: `refused`, number and place, with one space between.
+// A refusal: `refused`, number and place, with one space between. Any number and place, where a Refusal would ask more of who prints one.
 pub fn print_refusal<W: Write>(to: &mut W, number: u32, place: u64) -> io::Result<()>
     ensures { OnOk result (Appends (W.contents to.old) (W.contents to.new) (refusal_line number place)) }
 {

@@ -2,7 +2,7 @@
 // A cluster has two options. The any-option cuts the heaviest branches until the weight is within the limit; it is not there if the fixed weight alone is over the limit.
 // The ungated option cuts every branch that cannot come without a gate, and may then weigh anything; it is not there if the cluster has a gate.
 // `c`, `b` and `r`, with `HungAbove` of them, go from function to function: tried as one struct with a ghost field and these as methods; it proved, and repair of a chain of 256 nodes without obstacles took 1.3 of the time.
-// `ungated` and `cut_any` are lent apart from the rest of Counts: one is read while the other is written.
+// `ungated` and `cut_any` are lent apart from the rest of Counts, one read while the other is written: lent whole, the contract would have to say what stays, no plainer.
 ghost use Rattle.std.specs.Prelude.{◌≡◌, ◌+◌, ◌<◌, ◌≤◌, ◌^◌, get_or};
 ghost use Rattle.std.specs.Option.{IfSome};
 ghost use Rattle.clusters.specs.Positions.{los};

@@ -1,4 +1,5 @@
 // A net's routing read from a DEF text and written as a net file.
+// `flags` stand in an array beside the nodes, which `routes` lends and which have none: in one array the nodes would have to be copied, no plainer. No heap, fixed memory.
 // Definitions: specs/.
 #![tactic(auto)]
 

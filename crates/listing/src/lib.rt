@@ -1,6 +1,6 @@
 // The jumper list of the chosen points.
 // `cuttable`, `near` and `cut_high` are three arrays of three passes before, read here as they stand, as far as n, the nodes of the net; one array of structs would have to be made of them. No heap, fixed memory.
-// The three `as`: std has no From from usize and u32 to the narrower types, and try_from would add a branch that gives up, where the numbers are proved to fit.
+// The three `as`: std has no From of usize or u32 to the narrower types, and try_from would add a branch that gives up, where the numbers are proved to fit.
 #![tactic(auto)]
 
 ghost use Rattle.std.specs.Prelude.{◌≡◌, ◌*◌, ◌<◌, ◌≤◌, is_some, length, get_or, unwrap_or};

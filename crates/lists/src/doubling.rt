@@ -1,4 +1,4 @@
-// The entries of one wire in an accepted list, found by doubling steps: most wires have few entries, for which a search that halves the rest of the list would look far away first.
+// The entries of one wire in an accepted list, found by doubling steps. Not by a search of the library: these take a slice of items, and the entries are three bytes each in a slice of bytes; no plainer.
 ghost use Rattle.std.specs.Prelude.{◌≡◌, true, false, ℕ, ◌+◌, ◌*◌, ◌/◌, ◌<◌, ◌≤◌};
 ghost use Rattle.pieces.specs.Legal.{entry_wire};
 ghost use Rattle.pieces.specs.JumperList.{entry_count};

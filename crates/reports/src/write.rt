@@ -1,5 +1,5 @@
 // The pass that writes the records of all pieces, by rising number, then position.
-// `RecordsFit ..` is about a buffer and `i < most_nodes` about an index, not about one value. `out` and `at` stay two: a struct that holds `&mut out` did not prove (`records::wire`).
+// `RecordsFit ..` is about a buffer and `i < most_nodes` about an index, not about one value; flags below 4: see `records::record`. `out` and `at` stay two: a struct that holds `&mut out` did not prove (`records::wire`).
 ghost use Rattle.std.specs.Prelude.{◌≡◌, List, ℕ, ◌+◌, ◌-◌, ◌*◌, ◌<◌, ◌≤◌, length, get_or};
 ghost use Rattle.laws.specs.Place.{place};
 ghost use Rattle.net.specs.Layout.{record_bytes, most_nodes, most_layers};
