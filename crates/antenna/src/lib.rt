@@ -42,7 +42,7 @@ pub fn antenna_report(
 ) -> Result<usize, Refusal>
     ensures { (answered result ≡ report_answer stage file.now jumpers.now (length out.old)) × (out.new ≡ report_buffer stage limit file.now jumpers.now out.old) }
 {
-    reports::one_pass::report(stage, limit, file, jumpers, out)
+    reports::report::report(stage, limit, file, jumpers, out)
 }
 
 // Finds a smallest legal jumper set of a net at a stage under a limit: 1, 2 to 11 and 20, 15, 16, or the number of jumpers written.

@@ -1,5 +1,4 @@
 pub mod EntriesChecked
-pub mod EntriesByWire
 pub mod Entries
 pub mod EntriesOfWire
 pub mod EntriesFew

@@ -5,8 +5,8 @@ ghost use Rattle.laws.specs.Numbers.{Bytes};
 ghost use Rattle.records.specs.ListRight.{AcceptedWithoutObstacles};
 
 pub mod pass;
-pub mod record;
-pub mod wire;
+mod record;
+mod wire;
 
 // An accepted net at a stage with an accepted jumper list. The passes over them read no obstacle, and without obstacles both are still accepted.
 #[derive(Clone, Copy)]

@@ -8,7 +8,7 @@ ghost use Rattle.records.specs.NetWithJumpers.{AtNet, RecordsFit};
 
 use crate::NetWithJumpers;
 use crate::wire::take_wire;
-use lists::doubling::entries_end;
+use lists::wire::entries_end;
 use net::fields::node_count;
 use net::layout::MOST_NODES;
 

@@ -24,7 +24,7 @@ use points::length_of;
 use std::ops::Range;
 
 // The weight of so many steps of a wire.
-pub fn weight_of(steps: u32, factor: u8) -> u64
+fn weight_of(steps: u32, factor: u8) -> u64
     ensures { (result ≡ steps * factor) × (steps < length_bound → result < wire_weight_bound) }
 {
     u64::from(steps) * u64::from(factor)
@@ -39,7 +39,7 @@ fn mask_of(layer: u8) -> u16
 }
 
 // The layers of so many steps of a layer.
-pub fn layers_of(steps: u32, layer: u8) -> u16
+fn layers_of(steps: u32, layer: u8) -> u16
     requires { (1 ≤ layer) × (layer ≤ most_layers) }
     ensures { result ≡ χ (ltb 0 steps) (2 ^ (layer - 1)) }
 {
@@ -61,7 +61,7 @@ fn start_piece(i: usize, piece: Record, places: &mut [usize], out: &mut [u8], at
 }
 
 // The records of the stretches between some entries of wire i. Its number as a byte is proved to fit, where `try_from` would add a branch that gives up.
-pub fn write_stretches(
+fn write_stretches(
     jumpers: &[u8],
     i: usize,
     entries: Range<usize>,

@@ -1,11 +1,3 @@
-pub mod Gathered
-pub mod NodeRecords
-pub mod Gathering
-pub mod ListRight
-pub mod ListRights
-pub mod Reached
-pub mod Writing
-pub mod StretchRecords
 pub mod Counting
 pub mod Reporting
 pub mod FromFile

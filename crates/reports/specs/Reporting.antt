@@ -1,11 +1,9 @@
 -- Which answer each ending of the report gives, and what the lent buffer then holds.
 -- Assumes nothing.
-use Rattle.std.specs.Prelude.{ℕ, ◌*◌, ◌≤◌, ◌<◌, ◌≡◌, true, false, List, length, replicate}
-use Rattle.std.proofs.Common.{◌∙◌, le_of_eq, zero-add}
+use Rattle.std.specs.Prelude.{ℕ, ◌*◌, ◌≤◌, ◌<◌, ◌≡◌, true, false, List, length}
+use Rattle.std.proofs.Common.{◌∙◌}
 use borrow.Author.Tests.{lt-ltb, le-ltb}
-use Rattle.laws.specs.Lists.{over, zeros}
-use Rattle.laws.specs.Place.{place}
-use Rattle.reports.specs.ListRight.{AtMost}
+use Rattle.laws.specs.Lists.{over}
 use Rattle.net.specs.Layout.{record_bytes}
 use Rattle.net.specs.Stage.{Stage}
 use Rattle.net.specs.Refusal.{Verdict, none, refusal, met, or_else, lent_refusal, answer}
@@ -16,20 +14,12 @@ use Rattle.pieces.specs.Report.{report_of}
 use Rattle.pieces.specs.Reports.{report_length}
 use Rattle.reports.specs.Promise.{piece_count, pieces_buffer, report_refusal, report_answer, report_buffer}
 
--- an array of zeros
-pub zeros-most : (n : ℕ) → AtMost 0 (replicate n 0)
-zeros-most n h = le_of_eq (zeros n h)
-
 -- a refused answer has count 0 whatever is counted
 pub answer-refused : (r : Verdict) (m n : ℕ) → met r ≡ true → answer r m ≡ answer r n
 unfolding answer
 answer-refused r m n h = rw h
 
 -- the records of all pieces at the start of a buffer
-pub pieces_placed : (s : Stage) (limit : ℕ) (list out : List ℕ) → place 0 (report_of s limit (set_of list)) out ≡ pieces_buffer s limit list out
-unfolding pieces_buffer
-pieces_placed s limit list out = rw (report_length s limit (set_of list)) (rw (zero-add (record_bytes * piece_count s list)))
-
 pub pieces_over : (s : Stage) (limit : ℕ) (list out : List ℕ) → over (report_of s limit (set_of list)) out ≡ pieces_buffer s limit list out
 unfolding pieces_buffer
 pieces_over s limit list out = rw (report_length s limit (set_of list))

@@ -1,8 +1,5 @@
-// The piece report: what the call tries in order, then its work over an accepted net with an accepted jumper list.
+// The piece report: what the call tries in order, then the records of all pieces of an accepted net with an accepted jumper list.
 #![tactic(auto)]
 
 pub mod count;
-mod gather;
-pub mod one_pass;
 pub mod report;
-mod write;

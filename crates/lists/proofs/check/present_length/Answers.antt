@@ -1,11 +1,10 @@
--- `lists::by_wire::present_length` meets its contract.
+-- `lists::check::present_length` meets its contract.
 -- Assumes nothing.
 use mathlib.Core.Path.{sym, ◌∙◌}
 use native.Mathlib.Omega.{arith}
-use Rattle.lists.specs.EntriesChecked.{wires-checked, wire-stored, present-checked}
-use Rattle.lists.specs.EntriesByWire.{length_no_wire, length-absent, length-present}
-use Rattle.lists.proofs.by_wire.present_length.Goals as goal
-use Rattle.lists.proofs.by_wire.present_length.Goals.{else-i-node_count-via-then-i-node_count+else-is_present, else-i-node_count-via-else-i-node_count}
+use Rattle.lists.specs.EntriesChecked.{wires-checked, wire-stored, present-checked, length_no_wire, length-absent, length-present}
+use Rattle.lists.proofs.check.present_length.Goals as goal
+use Rattle.lists.proofs.check.present_length.Goals.{else-i-node_count-via-then-i-node_count+else-is_present, else-i-node_count-via-else-i-node_count}
 
 pub returns-then-is_present : goal.returns-then-is_present
 returns-then-is_present c = c.length_of.ensures.0 ∙ length-present _ _ _ _ (omega arith) (sym c.is_present.ensures ∙ c.if-is_present.true)

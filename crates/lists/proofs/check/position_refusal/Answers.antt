@@ -1,9 +1,9 @@
--- `lists::by_wire::position_refusal` meets its contract.
+-- `lists::check::position_refusal` meets its contract.
 -- Assumes nothing.
 use native.Mathlib.Omega.{arith}
 use Rattle.std.proofs.lemmas.Bool.Decides.{nat_tests}
-use Rattle.lists.specs.EntriesByWire.{position_refusal}
-use Rattle.lists.proofs.by_wire.position_refusal.Goals as goal
+use Rattle.lists.specs.EntriesChecked.{position_refusal}
+use Rattle.lists.proofs.check.position_refusal.Goals as goal
 
 pub returns-then-t-eq0 : goal.returns-then-t-eq0
 unfolding position_refusal
