@@ -14,12 +14,12 @@ use Rattle.pieces.specs.Legal.{entry_position}
 abbrev pub lowest_of : ℕ → ℕ
 lowest_of layers = cond (eqb layers 0) 0 (suc (count_trailing_zeros most_layers layers))
 
--- number and position; weight and flags; layers, how many they are, and the lowest
-abbrev pub name_part : ℕ → ℕ → List ℕ
-name_part number position = number ∷ bytes16 position
-
+-- weight and flags; number and position before them; layers, how many they are, and the lowest
 abbrev pub weight_part : ℕ → ℕ → List ℕ
 weight_part weight flags = bytes32 weight ++ flags ∷ []
+
+abbrev pub head_part : ℕ → ℕ → ℕ → ℕ → List ℕ
+head_part number position weight flags = number ∷ bytes16 position ++ weight_part weight flags
 
 abbrev pub layers_part : ℕ → List ℕ
 layers_part layers = bytes16 layers ++ ones layers ∷ lowest_of layers ∷ []

@@ -2,30 +2,13 @@
 -- Assumes nothing.
 use Rattle.std.specs.Prelude.{ℕ, ◌+◌, ◌-◌, ◌%◌, ◌≤◌, ◌≡◌, refl, List, ◌∷◌, ◌++◌, length, take, drop, get_or}
 use Rattle.std.proofs.Common.{sym, ◌∙◌, ap, arith, take-append-drop, take-suc, drop-cons, drop-drop, drop_at, append_assoc, length-append, length-drop, length-take-le, get_or-drop}
-use Rattle.std.proofs.lemmas.List.Edits.{sets}
 use Rattle.std.specs.Int.Bits.{bit_or}
 use Rattle.laws.specs.Bytes.{le16, le32, bytes16}
 use Rattle.laws.specs.Numbers.{Bytes, bytes16-le16, bytes_drop}
-use Rattle.laws.specs.Place.{place, place-length, place_sets, place-more, part-all, place-part}
+use Rattle.laws.specs.Place.{place, place-length, place-more, part-all, place-part}
 use Rattle.net.specs.Layout.{record_bytes}
-use Rattle.records.specs.Record.{name_part, weight_part, layers_part, fields, with_harm, NodeRecord, joined}
+use Rattle.records.specs.Record.{weight_part, layers_part, fields, with_harm, NodeRecord, joined}
 use Rattle.records.specs.Wire.{joined_above}
-
--- a record written in three parts
-pub parts_placed : (l : List ℕ) (number position weight flags layers : ℕ) → record_bytes ≤ length l →
-    place 8 (layers_part layers) (place 3 (weight_part weight flags) (place 0 (name_part number position) l))
-    ≡ fields number position weight flags layers ++ drop record_bytes l
-unfolding fields
-parts_placed l number position weight flags layers h =
-    ap (place 8 (layers_part layers)) (place-more 0 (name_part number position) (weight_part weight flags) l (omega arith))
-    ∙ place-more 0 (name_part number position ++ weight_part weight flags) (layers_part layers) l h
-
--- the same with the name stored byte by byte
-pub parts_record : (l : List ℕ) (number position weight flags layers : ℕ) → record_bytes ≤ length l →
-    place 8 (layers_part layers) (place 3 (weight_part weight flags) (sets l 0 (number ∷ bytes16 position)))
-    ≡ fields number position weight flags layers ++ drop record_bytes l
-parts_record l number position weight flags layers h =
-    rw (place_sets 0 (number ∷ bytes16 position) l (omega arith)) (parts_placed l number position weight flags layers h)
 
 -- more joined to the record of a piece with nodes
 module _ (r : List ℕ) (h : record_bytes ≤ length r) (s : NodeRecord r) where

@@ -4,7 +4,7 @@ ghost use Rattle.std.specs.Prelude.{◌≡◌, ◌++◌, ◌<◌, ◌≤◌, len
 ghost use Rattle.laws.specs.Place.{place};
 ghost use Rattle.net.specs.Layout.{record_bytes, most_nodes};
 ghost use Rattle.net.specs.Limits.{wire_weight_bound};
-ghost use Rattle.records.specs.Record.{lowest_of, name_part, weight_part, layers_part, fields, with_harm, NodeRecord, joined};
+ghost use Rattle.records.specs.Record.{lowest_of, weight_part, head_part, layers_part, fields, with_harm, NodeRecord, joined};
 
 use net::fields::{is_gate, is_source, u16_at, u32_at};
 
@@ -38,19 +38,20 @@ impl Record {
         requires { record_bytes ≤ length rest.old }
         ensures { rest.new ≡ fields self.number self.position self.weight self.flags self.layers ++ drop record_bytes rest.old }
     {
-        write_name(rest, self.number, self.position);
-        write_weight(rest, self.weight, self.flags);
+        write_head(rest, self.number, self.position, self.weight, self.flags);
         write_layers(rest, self.layers);
     }
 }
 
-// Number and position of the record that begins the remainder.
-fn write_name(rest: &mut [u8], number: u8, position: u32)
+// Number, position, weight and flags of the record that begins the remainder, put together first so that they take one store, as do its layers.
+fn write_head(rest: &mut [u8], number: u8, position: u32, weight: u64, flags: u8)
     requires { record_bytes ≤ length rest.old }
-    ensures { rest.new ≡ place 0 (name_part number position) rest.old }
+    ensures { rest.new ≡ place 0 (head_part number position weight flags) rest.old }
 {
-    rest[0] = number;
-    rest[1..3].copy_from_slice(&position.to_le_bytes()[..2]);
+    let mut head = [number, 0, 0, 0, 0, 0, 0, flags];
+    head[1..3].copy_from_slice(&position.to_le_bytes()[..2]);
+    head[3..7].copy_from_slice(&weight.to_le_bytes()[..4]);
+    rest[..8].copy_from_slice(&head);
 }
 
 // Its weight and flags.
@@ -67,9 +68,9 @@ fn write_layers(rest: &mut [u8], layers: u16)
     requires { record_bytes ≤ length rest.old }
     ensures { rest.new ≡ place 8 (layers_part layers) rest.old }
 {
-    rest[8..10].copy_from_slice(&layers.to_le_bytes());
-    rest[10] = layers.count_ones() as u8;
-    rest[11] = lowest_layer(layers);
+    let mut tail = [0, 0, layers.count_ones() as u8, lowest_layer(layers)];
+    tail[..2].copy_from_slice(&layers.to_le_bytes());
+    rest[8..12].copy_from_slice(&tail);
 }
 
 // The lowest layer of a mask, or 0 where it is empty, as the byte of a record has it.

@@ -1,11 +1,13 @@
--- `records::record::Record::write` meets its contract: three writers leave the record.
+-- `records::record::Record::write` meets its contract: two writers leave the record.
 -- Assumes nothing.
 use Rattle.std.proofs.Common.{◌∙◌}
-use Rattle.records.specs.RecordBytes.{parts_placed}
+use Rattle.laws.specs.Place.{place-more}
+use Rattle.records.specs.Record.{head_part, layers_part, fields}
 use Rattle.records.proofs.record.Record.write.Goals as goal
 
 pub returns : goal.returns
+unfolding fields
 returns c =
     let r = c.args.self in
     c.write_layers.ensures
-    ∙ rw (c.write_weight.ensures, c.write_name.ensures) (parts_placed c.args.rest.now r.number r.position r.weight r.flags r.layers c.requires)
+    ∙ rw c.write_head.ensures (place-more 0 (head_part r.number r.position r.weight r.flags) (layers_part r.layers) c.args.rest.now c.requires)
