@@ -108,6 +108,7 @@ fn plain_layers() {
 #[test]
 fn plain_report() {
     suite::report::random_calls(report, 10_000);
+    suite::report::one_wrong_entry(report, 10_000);
     suite::report::every_length_lent(report);
     suite::report::many_jumpers(report);
     suite::report::heaviest(report);

@@ -9,6 +9,11 @@ fn random_calls() {
 }
 
 #[test]
+fn one_wrong_entry() {
+    report::one_wrong_entry(call, 20_000);
+}
+
+#[test]
 fn every_length_lent() {
     report::every_length_lent(call);
 }

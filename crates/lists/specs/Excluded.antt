@@ -21,6 +21,11 @@ refused stage list = refused_on 2 1 (7 ∷ 0 ∷ 0 ∷ 0 ∷ 7 ∷ 0 ∷ 0 ∷ 0
 abbrev pub refused_under : ℕ → ℕ → List ℕ → Verdict
 refused_under layer stage list = refused_on 2 2 (7 ∷ 0 ∷ 0 ∷ 0 ∷ 7 ∷ 0 ∷ 0 ∷ 0 ∷ layer ∷ []) stage list
 
+-- the refusal of a list on two wires, of 13 steps from (13,0) to (0,0) on layer 3, and of 5 from (13,5) to (13,0) on layer 2, under obstacles of version 2
+abbrev pub refused_on_two : List ℕ → List ℕ → Verdict
+refused_on_two obstacles list =
+    list_refusal (stage_of 2 (0 ∷ 0 ∷ 0 ∷ 0 ∷ 1 ∷ 13 ∷ 0 ∷ 0 ∷ 0 ∷ 0 ∷ 13 ∷ 0 ∷ 5 ∷ 0 ∷ 1 ∷ []) (0 ∷ 3 ∷ 1 ∷ 1 ∷ 2 ∷ 1 ∷ []) obstacles 3) list
+
 pub record SmallLists : Type 0 where
   pub two_entries : refused 2 (1 ∷ 5 ∷ 0 ∷ 1 ∷ 12 ∷ 0 ∷ []) ≡ none
   -- a part of an entry, though no whole one is wrong
@@ -46,6 +51,12 @@ pub record SmallLists : Type 0 where
   pub layer_above : refused_under 3 2 (1 ∷ 6 ∷ 0 ∷ []) ≡ refusal 14 0
   -- the stage has no part in it
   pub later_stage : refused_under 2 3 (1 ∷ 6 ∷ 0 ∷ []) ≡ refusal 14 0
+  pub two_wires : refused_on_two [] (1 ∷ 7 ∷ 0 ∷ 2 ∷ 4 ∷ 0 ∷ []) ≡ none
+  pub falling_wires : refused_on_two [] (2 ∷ 4 ∷ 0 ∷ 1 ∷ 7 ∷ 0 ∷ []) ≡ refusal 12 1
+  -- an entry is judged by its own wire, not by that of the entry before: by its length, by its line, by its layer
+  pub own_length : refused_on_two [] (1 ∷ 7 ∷ 0 ∷ 2 ∷ 7 ∷ 0 ∷ []) ≡ refusal 13 1
+  pub own_line : refused_on_two (13 ∷ 0 ∷ 3 ∷ 0 ∷ 13 ∷ 0 ∷ 3 ∷ 0 ∷ 16 ∷ []) (1 ∷ 7 ∷ 0 ∷ 2 ∷ 2 ∷ 0 ∷ []) ≡ refusal 14 1
+  pub own_layer : refused_on_two (0 ∷ 0 ∷ 0 ∷ 0 ∷ 13 ∷ 0 ∷ 5 ∷ 0 ∷ 2 ∷ []) (1 ∷ 7 ∷ 0 ∷ 2 ∷ 2 ∷ 0 ∷ []) ≡ refusal 14 1
 
 pub small_lists : SmallLists
 unfolding list_refusal entry_refusal point_refusal after first_of stage_of wire_length barred holds point_x point_y any
@@ -68,4 +79,9 @@ small_lists =
       layer_same = refl;
       layer_above = refl;
       later_stage = refl;
+      two_wires = refl;
+      falling_wires = refl;
+      own_length = refl;
+      own_line = refl;
+      own_layer = refl;
     }

@@ -1,71 +1,85 @@
-// Refusals 12 to 14 on a whole list, with the length of a wire computed once for its entries in a row.
-ghost use Rattle.std.specs.Prelude.{◌≡◌, ◌<◌};
-ghost use Rattle.net.specs.Net.{wire_length};
-ghost use Rattle.net.specs.Numbers.{checked};
+// Refusals 12 to 14 on a whole list, row after row: a row is the entries of one wire, whose length and line are found once.
+ghost use Rattle.std.specs.Prelude.{◌≡◌, ℕ, true, ◌||◌, ◌-◌, ◌<◌, eqb, MatchResult};
+ghost use Rattle.net.specs.Refusal.{none, refusal, first_of};
+ghost use Rattle.net.specs.Numbers.{checked, number_of, place_of};
 ghost use Rattle.net.specs.AcceptedNet.{stage_of_net};
-ghost use Rattle.points.specs.Cuttable.{Checked};
-ghost use Rattle.pieces.specs.JumperList.{list_refusal};
-ghost use Rattle.lists.specs.EntriesChecked.{present_length, position_refusal};
+ghost use Rattle.points.specs.Lines.{Reaches};
+ghost use Rattle.pieces.specs.Legal.{after};
+ghost use Rattle.pieces.specs.JumperList.{entry_count, entry_refusal, list_refusal};
+ghost use Rattle.lists.specs.EntriesChecked.{position_refusal, AcceptedTo};
 
 use crate::entries::{entry_count, entry_position, entry_wire};
 use net::Net;
 use net::fields::{is_present, node_count};
 use net::layout::ENTRY_BYTES;
 use net::refusal::Refusal;
-use points::{is_barred, length_of};
+use points::{Line, is_barred, length_of};
 
-// The length of wire i, or 0 where there is no such wire or the stage does not have it: an Option would be no plainer, one test serves a wire without steps too.
-fn present_length(net: Net, stage: u8, i: usize) -> u32
-    ensures { result ≡ present_length net.entry.nodes.now net.entry.wires.now stage i }
-{
-    if i < node_count(net.nodes) && is_present(stage, net.wires, i) {
-        length_of(net.nodes, net.wires, i)
-    } else {
-        0
-    }
-}
-
-// Position t of wire i; `length` is that of the wire, or 0 where the stage does not have it: 13, 14.
-fn position_refusal(net: Net, i: usize, length: u32, t: u32, place: usize) -> Result<(), Refusal>
-    requires { 0 < length → Checked net.nodes.now net.wires.now i × (length ≡ wire_length net.nodes.now net.wires.now i) }
-    ensures { checked result ≡ position_refusal net.entry.version net.entry.nodes.now net.entry.wires.now net.entry.obstacles.now i length t place }
+// Position t of a wire of the stage, by its line and its length: 13, 14.
+fn position_refusal(net: Net, line: Line, length: u32, t: u32, place: usize) -> Result<(), Refusal>
+    requires { (s : ℕ) → s < length → Reaches line s }
+    ensures { checked result ≡ position_refusal net.entry.version net.entry.obstacles.now line length t place }
 {
     if t == 0 || length <= t {
         return Err(Refusal::JumperOutside(place));
     }
-    if is_barred(net.version, net.nodes, net.wires, net.obstacles, i, t) {
+    if is_barred(net.version, net.obstacles, line, t) {
         return Err(Refusal::JumperBarred(place));
     }
     Ok(())
 }
 
-// 12 on the length of a list, then each entry in order: 12, then 13 and 14 on its point. Of the entry before, `wire` is its wire, `from` the position behind it
-// and `length` the length of its wire, which is computed once for entries in a row on one wire. Where there is none before, the zeros are true of wire 0: node 0
-// has no wire, so its length is 0 and every position stands behind it. An `Option` of a struct of the three was tried and proved: a report of 65,000 jumpers on
-// one wire then took 1.37 to 1.50 of the time, depending on where in memory the code lay.
+// Where the row ends whose first entry is e, which stands after the one before; or the first refusal up to there. 13 on the wire is met on its first entry; then
+// each entry in order: 12, then 13 and 14 on its point.
+fn row_end(net: Net, stage: u8, list: &[u8], e: usize) -> Result<usize, Refusal>
+    requires first { (e < entry_count list.now) × (true ≡ (eqb e 0 || after list.now (e - 1) e)) }
+    requires below { none ≡ first_of e (entry_refusal (stage_of_net net stage) list.now) }
+    ensures { MatchResult result (AcceptedTo (stage_of_net net.entry stage) list.now e)
+        (λ r. refusal (number_of r) (place_of r) ≡ first_of (entry_count list.now) (entry_refusal (stage_of_net net.entry stage) list.now)) }
+{
+    let i = entry_wire(list, e);
+    if node_count(net.nodes) <= i || !is_present(stage, net.wires, i) {
+        return Err(Refusal::JumperOutside(e));
+    }
+    let length = length_of(net.nodes, net.wires, i);
+    let line = Line::of_wire(net.nodes, net.wires, i);
+    let count = entry_count(list);
+    // the next entry stands behind this position: at first the node's, 0, then that of the entry before
+    let mut before = 0;
+    for d in e..count {
+        let wire = entry_wire(list, d);
+        if wire < i {
+            return Err(Refusal::ListOrder(d));
+        }
+        if i < wire {
+            return Ok(d);
+        }
+        let t = entry_position(list, d);
+        if t <= before {
+            return Err(if before == 0 {
+                Refusal::JumperOutside(d)
+            } else {
+                Refusal::ListOrder(d)
+            });
+        }
+        position_refusal(net, line, length, t, d)?;
+        before = t;
+    }
+    Ok(count)
+}
+
+// 12 on the length of a list, then each entry in order. Where a row ends is known once it is checked: hence `while`. Not put into its callers, where the compiler
+// would take its loops for rare ones and not align them.
+#[inline(never)]
 pub fn list_refusal(net: Net, stage: u8, list: &[u8]) -> Result<(), Refusal>
     ensures { checked result ≡ list_refusal (stage_of_net net.entry stage) list.now }
 {
     if list.len() % ENTRY_BYTES != 0 {
         return Err(Refusal::ListOrder(0));
     }
-    let mut wire = 0;
-    let mut from = 0;
-    let mut length = 0;
-    for e in 0..entry_count(list) {
-        let i = entry_wire(list, e);
-        let t = entry_position(list, e);
-        if i != wire {
-            if i < wire {
-                return Err(Refusal::ListOrder(e));
-            }
-            wire = i;
-            length = present_length(net, stage, i);
-        } else if t < from {
-            return Err(Refusal::ListOrder(e));
-        }
-        position_refusal(net, i, length, t, e)?;
-        from = t + 1;
+    let mut e = 0;
+    while e < entry_count(list) {
+        e = row_end(net, stage, list, e)?;
     }
     Ok(())
 }

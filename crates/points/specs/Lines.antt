@@ -1,11 +1,11 @@
 -- Laws of the points of a wire, on both axes, and of the search along its line.
 -- Assumes nothing.
-use Rattle.std.specs.Prelude.{ℕ, ◌<◌, ◌≤◌, ◌≡◌, ◌⊎◌, Bool, true, false, ◌&&◌, List, get_or, leb, ltb, Option, None, Some, MatchOption, is_some}
+use Rattle.std.specs.Prelude.{ℕ, ◌<◌, ◌≤◌, ◌≡◌, ◌⊎◌, Bool, true, false, ◌&&◌, List, get_or, leb, ltb, Option, None, Some}
 use Rattle.std.proofs.Common.{sym, ◌∙◌, arith, ltb-true, ltb-false, leb-true, leb-false}
 use Rattle.laws.specs.Sum.{any}
 use Rattle.laws.specs.Sums.{by, and_left, and_right, and_intro, any-yes, any_none}
 use Rattle.net.specs.Layout.{newest}
-use Rattle.net.specs.Net.{node_x, node_y, wire_parent, wire_length, obstacle_x1, obstacle_y1, obstacle_x2, obstacle_y2, obstacle_layer, obstacle_count, wire_layer, point_x, point_y, holds, barred}
+use Rattle.net.specs.Net.{node_x, node_y, wire_parent, wire_length, obstacle_x1, obstacle_y1, obstacle_x2, obstacle_y2, obstacle_layer, obstacle_count, wire_layer, holds, barred}
 use Rattle.net.specs.declared.fields.Obstacle.{Obstacle}
 use Rattle.points.specs.Cuttable.{Checked, Highest, Lowest, LastBelow, FirstAbove}
 use Rattle.points.specs.Geometry.{heading, stepped, Reach, reach_less, last_below, first_above, between, axis_below, axis_above, both_below, both-above, reach-x, reach-y, point_x_is, point_y_is}
@@ -91,28 +91,16 @@ pub record BarredBy (obstacles : List ℕ) (line : Line) (t : ℕ) (o : Obstacle
   pub barring : bars newest obstacles line.layer k (point_on line t).x (point_on line t).y ≡ true
 
 -- some obstacle bars the point t steps on
-unfoldable pub barred_at : List ℕ → Line → ℕ → Bool
-barred_at obstacles line t = any (obstacle_count newest obstacles) (λ k. bars newest obstacles line.layer k (point_on line t).x (point_on line t).y)
+unfoldable pub barred_at : ℕ → List ℕ → Line → ℕ → Bool
+barred_at version obstacles line t = any (obstacle_count version obstacles) (λ k. bars version obstacles line.layer k (point_on line t).x (point_on line t).y)
 
-pub barred_is : (nodes wires obstacles : List ℕ) (i t : ℕ) → barred_at obstacles (line_of nodes wires i) t ≡ barred newest nodes wires obstacles i t
+pub barred_is : (version : ℕ) (nodes wires obstacles : List ℕ) (i t : ℕ) → barred_at version obstacles (line_of nodes wires i) t ≡ barred version nodes wires obstacles i t
 unfolding barred_at barred
-barred_is nodes wires obstacles i t = rw (point_x_is nodes wires i t, point_y_is nodes wires i t)
+barred_is version nodes wires obstacles i t = rw (point_x_is nodes wires i t, point_y_is nodes wires i t)
 
--- the first that passes a test tells whether any does
+-- none before the first that passes a test does
 pub first-none : (n r : ℕ) (f : ℕ → Bool) → ((j : ℕ) → j < r → f j ≡ false) → n ≤ r → any n f ≡ false
 first-none n r f before l = any_none n f (λ j h. before j (omega arith))
-
-pub first_any : (n r : ℕ) (f : ℕ → Bool) → ((j : ℕ) → j < r → f j ≡ false) → (r < n → f r ≡ true) → ltb r n ≡ any n f
-first_any n r f before found =
-    by (ltb r n) (λ h. h ∙ sym (any-yes n r f (ltb-true r n h) (found (ltb-true r n h))))
-    (λ h. h ∙ sym (first-none n r f before (ltb-false r n h)))
-
-pub first_barred : (obstacles : List ℕ) (line : Line) (t : ℕ) (r : Option Obstacle) →
-    MatchOption r (barred_at obstacles line t ≡ false) (BarredBy obstacles line t) → is_some r ≡ barred_at obstacles line t
-unfolding barred_at
-first_barred obstacles line t None h = sym h
-first_barred obstacles line t (Some o) h =
-    sym (any-yes (obstacle_count newest obstacles) h.k (λ k. bars newest obstacles line.layer k (point_on line t).x (point_on line t).y) h.inside h.barring)
 
 -- an obstacle that bars a position is left behind in one step
 module _ (obstacles : List ℕ) (line : Line) (t : ℕ) {o : Obstacle} (b : BarredBy obstacles line t o) where
@@ -122,7 +110,7 @@ module _ (obstacles : List ℕ) (line : Line) (t : ℕ) {o : Obstacle} (b : Barr
       covers_is b.is (point_on line t)
       ∙ and_left (holds newest obstacles b.k (point_on line t).x (point_on line t).y) (leb line.layer (obstacle_layer newest obstacles b.k)) b.barring
 
-  bars-held : (s : ℕ) → covers o (point_on line s) ≡ true → barred_at obstacles line s ≡ true
+  bars-held : (s : ℕ) → covers o (point_on line s) ≡ true → barred_at newest obstacles line s ≡ true
   unfolding barred_at
   bars-held s g =
       any-yes (obstacle_count newest obstacles) b.k (λ k. bars newest obstacles line.layer k (point_on line s).x (point_on line s).y) b.inside
@@ -131,14 +119,14 @@ module _ (obstacles : List ℕ) (line : Line) (t : ℕ) {o : Obstacle} (b : Barr
 
   pub leap_down : {r last : ℕ} → 0 < t →
       LastBelow (λ t. covers o (point_on line t)) r →
-      ((s : ℕ) → t < s → s ≤ last → barred_at obstacles line s ≡ true) → (r < t) × ((s : ℕ) → r < s → s ≤ last → barred_at obstacles line s ≡ true)
+      ((s : ℕ) → t < s → s ≤ last → barred_at newest obstacles line s ≡ true) → (r < t) × ((s : ℕ) → r < s → s ≤ last → barred_at newest obstacles line s ≡ true)
   leap_down p below passed =
       let z = below t p held in
       (z.0, λ s l m. by (leb s t) (λ u. bars-held s (z.1 s l (leb-true s t u))) (λ u. passed s (leb-false s t u) m))
 
   pub leap_up : {r first end : ℕ} → t < end →
       FirstAbove (λ t. covers o (point_on line t)) end r →
-      ((s : ℕ) → first ≤ s → s < t → barred_at obstacles line s ≡ true) → (t < r) × ((s : ℕ) → first ≤ s → s < r → barred_at obstacles line s ≡ true)
+      ((s : ℕ) → first ≤ s → s < t → barred_at newest obstacles line s ≡ true) → (t < r) × ((s : ℕ) → first ≤ s → s < r → barred_at newest obstacles line s ≡ true)
   leap_up p above passed =
       let z = above t p held in
       (z.0, λ s l m. by (ltb s t) (λ u. passed s l (ltb-true s t u)) (λ u. bars-held s (z.1 s (ltb-false s t u) m)))
@@ -153,13 +141,3 @@ pub lowest_ap : {b d : ℕ → Bool} (x end : ℕ) (r : Option ℕ) → ((t : �
 lowest_ap x end None e h = λ t l m. sym (e t) ∙ h t l m
 lowest_ap x end (Some r) e h =
     record { from = h.from; within = h.within; free = sym (e r) ∙ h.free; below = λ t l m. sym (e t) ∙ h.below t l m }
-
--- a point judged by one obstacle after another
-module _ (v : ℕ) (ns ws os : List ℕ) (i t : ℕ) {layer x y : ℕ} (el : layer ≡ wire_layer ws i) (ex : x ≡ point_x ns ws i t) (ey : y ≡ point_y ns ws i t) where
-  pub barred_yes : (k : ℕ) → k < obstacle_count v os → bars v os layer k x y ≡ true → true ≡ barred v ns ws os i t
-  unfolding barred
-  barred_yes k p b = sym (any-yes (obstacle_count v os) k (λ j. bars v os (wire_layer ws i) j (point_x ns ws i t) (point_y ns ws i t)) p (rw (el, ex, ey) at b))
-
-  pub barred_no : ((j : ℕ) → j < obstacle_count v os → bars v os layer j x y ≡ false) → false ≡ barred v ns ws os i t
-  unfolding barred
-  barred_no h = sym (any_none (obstacle_count v os) (λ j. bars v os (wire_layer ws i) j (point_x ns ws i t) (point_y ns ws i t)) (λ j p. rw (el, ex, ey) at (h j p)))

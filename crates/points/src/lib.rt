@@ -1,19 +1,20 @@
 // The points of a wire, and the obstacles that bar them. The search sees obstacles in the form of the newest version.
-// The public functions take the sections and a wire's number, and require that this wire is checked: a `Net`, whose obstacles are right too, would ask more of
-// their callers. `is_barred` answers for every version, which the C interface gives as a number. `k < obstacle_count ..` bounds a read in place, and `Reaches line t` is about a position, not about the line.
+// Of a wire the public functions take the sections and its number, and require that it is checked: a `Net`, whose obstacles are right too, would ask more of
+// their callers. `is_barred` takes the wire's line, which serves all its points, and answers for every version, which the C interface gives as a number.
+// `k < obstacle_count ..` bounds a read in place, and `Reaches line t` is about a position, not about the line.
 #![tactic(auto)]
 
 ghost use Rattle.std.specs.Prelude.{◌≡◌, ◌&&◌, ◌<◌, ◌≤◌, false, leb, MatchOption};
 ghost use Rattle.net.specs.Layout.{newest};
 ghost use Rattle.net.specs.Limits.{length_bound};
-ghost use Rattle.net.specs.Net.{wire_length, point_x, point_y, obstacle_count, barred};
+ghost use Rattle.net.specs.Net.{wire_length, obstacle_count, barred};
 ghost use Rattle.points.specs.Cuttable.{Checked, Highest, Lowest};
 ghost use Rattle.points.specs.Lines.{Reaches, covers, bars, barred_at, BarredBy};
 
 mod line;
 
-use crate::line::Line;
-pub use crate::line::Point;
+pub use crate::line::Line;
+use crate::line::Point;
 use net::fields::{
     Obstacle, node_at, obstacle_at, obstacle_bytes, obstacle_count, u16_at, wire_at,
 };
@@ -29,34 +30,17 @@ pub fn length_of(nodes: &[u8], wires: &[u8], i: usize) -> u32
     u32::from(from.x.abs_diff(to.x)) + u32::from(from.y.abs_diff(to.y))
 }
 
-// The point at position t of wire i.
-pub fn point_at(nodes: &[u8], wires: &[u8], i: usize, t: u32) -> Point
-    requires { Checked nodes.now wires.now i × (t ≤ wire_length nodes.now wires.now i) }
-    ensures x { result.x ≡ point_x nodes.now wires.now i t }
-    ensures y { result.y ≡ point_y nodes.now wires.now i t }
-{
-    Line::of_wire(nodes, wires, i).at(t)
-}
-
-// Position t of wire i is barred, by obstacles of any version.
-pub fn is_barred(
-    version: u16,
-    nodes: &[u8],
-    wires: &[u8],
-    obstacles: &[u8],
-    i: usize,
-    t: u32,
-) -> bool
-    requires { Checked nodes.now wires.now i × (t ≤ wire_length nodes.now wires.now i) }
-    ensures { result ≡ barred version nodes.now wires.now obstacles.now i t }
+// Position t of a line is barred, by obstacles of any version.
+pub fn is_barred(version: u16, obstacles: &[u8], line: Line, t: u32) -> bool
+    requires { Reaches line t }
+    ensures { result ≡ barred_at version obstacles.now line t }
 {
     if obstacles.is_empty() {
         return false;
     }
-    let layer = wire_at(wires, i).layer;
-    let p = point_at(nodes, wires, i, t);
+    let p = line.at(t);
     for k in 0..obstacle_count(version, obstacles) {
-        if bars_point(version, obstacles, layer, k, p) {
+        if bars_point(version, obstacles, line.layer, k, p) {
             return true;
         }
     }
@@ -110,7 +94,7 @@ pub fn lowest_cuttable(
 // The search down a line. An obstacle that bars a position is left behind in one step, where a `for` would try its positions one by one.
 fn highest_free(obstacles: &[u8], line: Line, last: u32) -> Option<u32>
     requires { Reaches line last }
-    ensures { Highest (barred_at obstacles.now line) last result }
+    ensures { Highest (barred_at newest obstacles.now line) last result }
 {
     let mut t = last;
     while 0 < t {
@@ -125,7 +109,7 @@ fn highest_free(obstacles: &[u8], line: Line, last: u32) -> Option<u32>
 // The search up, by steps like those down, for positions below `end`; with a direction as a parameter both searches would take each comparison twice.
 fn lowest_free(obstacles: &[u8], line: Line, first: u32, end: u32) -> Option<u32>
     requires { Reaches line end × (0 < first) }
-    ensures { Lowest (barred_at obstacles.now line) first end result }
+    ensures { Lowest (barred_at newest obstacles.now line) first end result }
 {
     let mut t = first;
     while t < end {
@@ -140,7 +124,7 @@ fn lowest_free(obstacles: &[u8], line: Line, first: u32, end: u32) -> Option<u32
 // The first obstacle that bars position t of a line.
 fn first_barring(obstacles: &[u8], line: Line, t: u32) -> Option<Obstacle>
     requires { Reaches line t }
-    ensures { MatchOption result (barred_at obstacles.now line t ≡ false) (BarredBy obstacles.now line t) }
+    ensures { MatchOption result (barred_at newest obstacles.now line t ≡ false) (BarredBy obstacles.now line t) }
 {
     let p = line.at(t);
     for k in 0..obstacle_count(NEWEST_VERSION, obstacles) {

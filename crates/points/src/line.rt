@@ -10,9 +10,9 @@ use std::cmp::Ordering;
 
 // A point of the grid.
 #[derive(Clone, Copy, Debug, PartialEq, Eq)]
-pub struct Point {
-    pub x: u16,
-    pub y: u16,
+pub(crate) struct Point {
+    pub(crate) x: u16,
+    pub(crate) y: u16,
 }
 
 // A line on one axis: the coordinate where it begins, and its direction, a step of −1, 0 or 1, the form that document 01 names.
@@ -24,7 +24,7 @@ pub(crate) struct Axis {
 
 // The line of a wire in its layer.
 #[derive(Clone, Copy, Debug, PartialEq, Eq)]
-pub(crate) struct Line {
+pub struct Line {
     pub(crate) layer: u8,
     pub(crate) x: Axis,
     pub(crate) y: Axis,
@@ -76,7 +76,7 @@ impl Axis {
 
 impl Line {
     // The line of wire i.
-    pub(crate) fn of_wire(nodes: &[u8], wires: &[u8], i: usize) -> Line
+    pub fn of_wire(nodes: &[u8], wires: &[u8], i: usize) -> Line
         requires { Checked nodes.now wires.now i }
         ensures line { result ≡ line_of nodes.now wires.now i }
         ensures reaches { (t : ℕ) → t ≤ wire_length nodes.now wires.now i → Reaches result t }

@@ -27,7 +27,7 @@ layers_part layers = bytes16 layers ++ ones layers ∷ lowest_of layers ∷ []
 -- number, position, weight, flags, layers, and from these how many they are and the lowest
 unfoldable pub fields : ℕ → ℕ → ℕ → ℕ → ℕ → List ℕ
 fields number position weight flags layers =
-    number ∷ bytes16 position ++ bytes32 weight ++ flags ∷ bytes16 layers ++ ones layers ∷ lowest_of layers ∷ []
+    head_part number position weight flags ++ layers_part layers
 
 -- bit 2 where the piece is harmful
 abbrev pub with_harm : ℕ → ℕ → ℕ → ℕ

@@ -5,9 +5,9 @@
 ghost use Rattle.std.specs.Prelude.{◌≡◌, ℕ, ◌+◌, ◌-◌, ◌*◌, ◌^◌, ◌<◌, ◌≤◌, length, get_or, set, drop, ltb};
 ghost use Rattle.laws.specs.Sum.{χ};
 ghost use Rattle.laws.specs.Place.{place};
-ghost use Rattle.net.specs.Layout.{record_bytes, wire_bytes, most_nodes, most_layers};
+ghost use Rattle.net.specs.Layout.{record_bytes, most_nodes, most_layers};
 ghost use Rattle.net.specs.Limits.{length_bound, wire_weight_bound};
-ghost use Rattle.net.specs.Net.{node_count, wire_parent, wire_layer, wire_factor};
+ghost use Rattle.net.specs.Net.{node_count, wire_parent};
 ghost use Rattle.pieces.specs.Legal.{entry_position};
 ghost use Rattle.pieces.specs.JumperList.{entry_count};
 ghost use Rattle.lists.specs.EntriesOfWire.{OfWire};

@@ -29,10 +29,6 @@ pub report_fits : (s : Stage) (limit : ℕ) (list : List ℕ) {records lent : �
     length (report_of s limit (set_of list)) ≤ lent
 report_fits s limit list e h = rw (report_length s limit (set_of list), ← e) h
 
--- and the other way round
-pub report_room : (s : Stage) (limit : ℕ) (list : List ℕ) {lent : ℕ} → length (report_of s limit (set_of list)) ≤ lent → record_bytes * piece_count s list ≤ lent
-report_room s limit list h = rw (report_length s limit (set_of list)) at h
-
 module _ (stage : ℕ) (file list : List ℕ) (limit : ℕ) (out : List ℕ) where
   abbrev s : Stage
   s = net_at file stage

@@ -1,5 +1,5 @@
 // The number of records: nodes less present wires, and one for each jumper.
-ghost use Rattle.std.specs.Prelude.{◌≡◌, List, ◌&&◌, ℕ, ◌*◌, ◌+◌, ◌≤◌, length, ltb, leb};
+ghost use Rattle.std.specs.Prelude.{◌≡◌, ◌&&◌, ◌*◌, ◌+◌, ◌≤◌, length, ltb, leb};
 ghost use Rattle.laws.specs.Sum.{χ, sum};
 ghost use Rattle.net.specs.Layout.{wire_bytes, most_nodes};
 ghost use Rattle.net.specs.Limits.{length_bound};

@@ -5,7 +5,7 @@ use crate::generate::obstacle::on_layers;
 use crate::generate::{any_file, any_net, jumper_list, limit, net, stage, version, Shape};
 use crate::random::Random;
 use crate::reference::net::{net_of, Net};
-use crate::reference::report::{free_points, list_of, report as expected_report};
+use crate::reference::report::{free_points, list_of, report as expected_report, Point};
 use crate::{Answer, Report};
 
 /// The report with this many bytes lent.
@@ -97,6 +97,88 @@ pub fn random_calls(report: Report, cases: usize) {
     numbers.push(20);
     met.often(2, &numbers, 2000, cases);
     assert!(by_layer * 100 > cases);
+}
+
+/// An entry that is refused behind the entry before, in the place of another, and the number that it is refused by.
+fn wrong_entry(
+    random: &mut Random,
+    net: &Net,
+    stage: u32,
+    before: Point,
+    (i, t): Point,
+    kind: usize,
+) -> Option<(Point, u32)> {
+    let least = if before.0 == i { before.1 + 1 } else { 1 };
+    let nodes = net.nodes.len();
+    let (entry, number) = match kind {
+        0 => (before, 12),
+        1 => ((before.0, random.below(before.1 as u64) as usize), 12),
+        2 => ((random.below(before.0 as u64) as usize, t), 12),
+        3 => ((i, 0), if before.0 == i { 12 } else { 13 }),
+        4 => ((i, net.length(i)), 13),
+        5 => ((i, random.range(net.length(i) as u64, 65535) as usize), 13),
+        6 => (
+            ((before.0..nodes).find(|&i| !net.present(stage, i))?, t),
+            13,
+        ),
+        7 => ((random.range(nodes as u64, 255) as usize, t), 13),
+        _ => ((i, (least..net.length(i)).find(|&t| net.barred(i, t))?), 14),
+    };
+    Some((entry, number))
+}
+
+/// Lists of many entries on many wires, in which one entry is wrong: each way to be wrong, and which number and place it is answered by.
+pub fn one_wrong_entry(report: Report, cases: usize) {
+    let mut random = Random::new(24);
+    let mut met = [[0; 15]; 9];
+    for case in 0..cases {
+        let shape = Shape {
+            version: version(&mut random),
+            nodes: 40,
+            longest: 60,
+            obstacles: 8,
+        };
+        let net = net(&mut random, shape);
+        let stage = stage(&mut random, &net);
+        let every = random.pick(&[1, 2, 7, 30]);
+        let mut jumpers: Vec<_> = free_points(&net, stage)
+            .into_iter()
+            .step_by(every)
+            .collect();
+        if jumpers.len() < 2 {
+            continue;
+        }
+        let e = random.range(1, jumpers.len() as u64 - 1) as usize;
+        let (before, kind) = (jumpers[e - 1], case % met.len());
+        let wrong = wrong_entry(&mut random, &net, stage, before, jumpers[e], kind);
+        let Some((entry, number)) = wrong else {
+            continue;
+        };
+        jumpers[e] = entry;
+        let list = list_of(&jumpers);
+        let answer = compare_report(
+            report,
+            stage,
+            5,
+            &net.file(),
+            &list,
+            12 * (40 + jumpers.len()),
+        );
+        assert_eq!(answer, Answer::refused(number, e), "{net:?} {jumpers:?}");
+        met[kind][number as usize] += 1;
+    }
+    println!("one wrong entry, by kind and number: {met:?}");
+    for (kind, met) in met.iter().enumerate() {
+        let numbers: &[usize] = match kind {
+            0..=2 => &[12],
+            3 => &[12, 13],
+            4..=7 => &[13],
+            _ => &[14],
+        };
+        for &number in numbers {
+            assert!(met[number] * 100 > cases, "kind {kind}: {met:?}");
+        }
+    }
 }
 
 /// Every length of buffer up to the need and some bytes more.

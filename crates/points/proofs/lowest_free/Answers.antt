@@ -1,10 +1,11 @@
 -- `points::lowest_free` meets its contract. Assumes nothing.
 use Rattle.std.proofs.Common.{ℕ, ◌<◌, ◌≤◌, ◌≡◌, true, arith}
+use Rattle.net.specs.Layout.{newest}
 use Rattle.points.specs.Lines.{barred_at, reaches_less, leap_up}
 use Rattle.points.proofs.lowest_free.Goals as goal
 
 leap : (c : goal.After-first_above-t) →
-    (c.loop-t.t < c.first_above-t.result) × ((s : ℕ) → c.args.first ≤ s → s < c.first_above-t.result → barred_at c.args.obstacles.now c.args.line s ≡ true)
+    (c.loop-t.t < c.first_above-t.result) × ((s : ℕ) → c.args.first ≤ s → s < c.first_above-t.result → barred_at newest c.args.obstacles.now c.args.line s ≡ true)
 leap c =
     leap_up c.args.obstacles.now c.args.line c.loop-t.t c.in-Some.ensures
     c.loop-t-test.true
