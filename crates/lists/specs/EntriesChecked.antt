@@ -126,9 +126,8 @@ module _ (s : Stage) (list : List ℕ) where
     unfolding list_refusal
     list_entries h = rw (eq-eqb _ _ a) h
 
--- no entry below `end` is refused, and entry `end`, if there is one, stands after the one before it
-pub record AcceptedTo (s : Stage) (list : List ℕ) (e end : ℕ) : Type 0 where
-  pub further : e < end
-  pub inside : end ≤ entry_count list
-  pub accepted : none ≡ first_of end (entry_refusal s list)
-  pub stands : end < entry_count list → true ≡ (eqb end 0 || after list (end - 1) end)
+-- no entry below e is refused, and entry e, if there is one, stands after the one before it
+pub record AcceptedTo (s : Stage) (list : List ℕ) (e : ℕ) : Type 0 where
+  pub inside : e ≤ entry_count list
+  pub accepted : none ≡ first_of e (entry_refusal s list)
+  pub stands : e < entry_count list → true ≡ (eqb e 0 || after list (e - 1) e)

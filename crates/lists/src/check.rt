@@ -1,10 +1,9 @@
 // Refusals 12 to 14 on a whole list, row after row: a row is the entries of one wire, whose length and line are found once.
-ghost use Rattle.std.specs.Prelude.{◌≡◌, ℕ, true, ◌||◌, ◌-◌, ◌<◌, eqb, MatchResult};
-ghost use Rattle.net.specs.Refusal.{none, refusal, first_of};
+ghost use Rattle.std.specs.Prelude.{◌≡◌, ℕ, ◌<◌, MatchResult};
+ghost use Rattle.net.specs.Refusal.{refusal, first_of};
 ghost use Rattle.net.specs.Numbers.{checked, number_of, place_of};
 ghost use Rattle.net.specs.AcceptedNet.{stage_of_net};
 ghost use Rattle.points.specs.Lines.{Reaches};
-ghost use Rattle.pieces.specs.Legal.{after};
 ghost use Rattle.pieces.specs.JumperList.{entry_count, entry_refusal, list_refusal};
 ghost use Rattle.lists.specs.EntriesChecked.{position_refusal, AcceptedTo};
 
@@ -15,12 +14,12 @@ use net::layout::ENTRY_BYTES;
 use net::refusal::Refusal;
 use points::{Line, is_barred, length_of};
 
-// Position t of a wire of the stage, by its line and its length: 13, 14.
+// Position t of a wire of the stage, above 0, by the wire's line and its length: 13, 14.
 fn position_refusal(net: Net, line: Line, length: u32, t: u32, place: usize) -> Result<(), Refusal>
-    requires { (s : ℕ) → s < length → Reaches line s }
+    requires { (0 < t) × ((s : ℕ) → s < length → Reaches line s) }
     ensures { checked result ≡ position_refusal net.entry.version net.entry.obstacles.now line length t place }
 {
-    if t == 0 || length <= t {
+    if length <= t {
         return Err(Refusal::JumperOutside(place));
     }
     if is_barred(net.version, net.obstacles, line, t) {
@@ -32,9 +31,8 @@ fn position_refusal(net: Net, line: Line, length: u32, t: u32, place: usize) -> 
 // Where the row ends whose first entry is e, which stands after the one before; or the first refusal up to there. 13 on the wire is met on its first entry; then
 // each entry in order: 12, then 13 and 14 on its point.
 fn row_end(net: Net, stage: u8, list: &[u8], e: usize) -> Result<usize, Refusal>
-    requires first { (e < entry_count list.now) × (true ≡ (eqb e 0 || after list.now (e - 1) e)) }
-    requires below { none ≡ first_of e (entry_refusal (stage_of_net net stage) list.now) }
-    ensures { MatchResult result (AcceptedTo (stage_of_net net.entry stage) list.now e)
+    requires { (e < entry_count list.now) × AcceptedTo (stage_of_net net stage) list.now e }
+    ensures { MatchResult result (λ end. (e < end) × AcceptedTo (stage_of_net net.entry stage) list.now end)
         (λ r. refusal (number_of r) (place_of r) ≡ first_of (entry_count list.now) (entry_refusal (stage_of_net net.entry stage) list.now)) }
 {
     let i = entry_wire(list, e);
@@ -69,7 +67,7 @@ fn row_end(net: Net, stage: u8, list: &[u8], e: usize) -> Result<usize, Refusal>
 }
 
 // 12 on the length of a list, then each entry in order. Where a row ends is known once it is checked: hence `while`. Not put into its callers, where the compiler
-// would take its loops for rare ones and not align them.
+// does not align its loops.
 #[inline(never)]
 pub fn list_refusal(net: Net, stage: u8, list: &[u8]) -> Result<(), Refusal>
     ensures { checked result ≡ list_refusal (stage_of_net net.entry stage) list.now }

@@ -1,4 +1,4 @@
-// The entries of one wire in an accepted list, found by doubling steps. Not by a search of the library: these take a slice of items, and the entries are three bytes each in a slice of bytes; no plainer.
+// The entries of one wire in an accepted list, found by doubling steps. The library's searches take a slice of items, where the entries are three bytes each in a slice of bytes.
 ghost use Rattle.std.specs.Prelude.{◌≡◌, true, false, ℕ, ◌+◌, ◌*◌, ◌/◌, ◌<◌, ◌≤◌};
 ghost use Rattle.pieces.specs.Legal.{entry_wire};
 ghost use Rattle.pieces.specs.JumperList.{entry_count};

@@ -36,6 +36,16 @@ module _ (stage : ℕ) (file list : List ℕ) (limit : ℕ) (out : List ℕ) whe
   abbrev needed : ℕ
   needed = record_bytes * piece_count s list
 
+  -- the refusal that is met first
+  module _ {r : Verdict} (e : report_refusal stage file list (length out) ≡ r) (m : met r ≡ true) where
+    refused_answer : answer r 0 ≡ report_answer stage file list (length out)
+    unfolding report_answer
+    refused_answer = answer-refused r 0 (piece_count s list) m ∙ rw e
+
+    refused_buffer : out ≡ report_buffer stage limit file list out
+    unfolding report_buffer
+    refused_buffer = rw (e, m)
+
   -- 1, 2 to 11 and 20
   module _ (h : met (call_refusal stage file) ≡ true) where
     call_first : report_refusal stage file list (length out) ≡ call_refusal stage file
@@ -43,12 +53,10 @@ module _ (stage : ℕ) (file list : List ℕ) (limit : ℕ) (out : List ℕ) whe
     call_first = first-met (call_refusal stage file) (or_else (list_refusal s list) (lent_refusal needed (length out))) h
 
     pub call_refused_answer : answer (call_refusal stage file) 0 ≡ report_answer stage file list (length out)
-    unfolding report_answer
-    call_refused_answer = answer-refused (call_refusal stage file) 0 (piece_count s list) h ∙ rw call_first
+    call_refused_answer = refused_answer call_first h
 
     pub call_refused_buffer : out ≡ report_buffer stage limit file list out
-    unfolding report_buffer
-    call_refused_buffer = rw (call_first, h)
+    call_refused_buffer = refused_buffer call_first h
 
   module _ (c : met (call_refusal stage file) ≡ false) where
     then_list : report_refusal stage file list (length out) ≡ or_else (list_refusal s list) (lent_refusal needed (length out))
@@ -61,12 +69,10 @@ module _ (stage : ℕ) (file list : List ℕ) (limit : ℕ) (out : List ℕ) whe
       list_first = then_list ∙ first-met (list_refusal s list) (lent_refusal needed (length out)) h
 
       pub list_refused_answer : answer (list_refusal s list) 0 ≡ report_answer stage file list (length out)
-      unfolding report_answer
-      list_refused_answer = answer-refused (list_refusal s list) 0 (piece_count s list) h ∙ rw list_first
+      list_refused_answer = refused_answer list_first h
 
       pub list_refused_buffer : out ≡ report_buffer stage limit file list out
-      unfolding report_buffer
-      list_refused_buffer = rw (list_first, h)
+      list_refused_buffer = refused_buffer list_first h
 
     module _ (accepted : list_refusal s list ≡ none) where
       then_lent : report_refusal stage file list (length out) ≡ lent_refusal needed (length out)

@@ -5,9 +5,9 @@ use Rattle.std.proofs.lemmas.Bool.Decides.{nat_tests}
 use Rattle.lists.specs.EntriesChecked.{position_refusal}
 use Rattle.lists.proofs.check.position_refusal.Goals as goal
 
-pub returns-then-t-eq0 : goal.returns-then-t-eq0
+pub returns-then-length-t : goal.returns-then-length-t
 unfolding position_refusal
-returns-then-t-eq0 c = grind (arith, nat_tests)
+returns-then-length-t c = grind (arith, nat_tests)
 
 pub returns-then-is_barred : goal.returns-then-is_barred
 unfolding position_refusal

@@ -12,7 +12,7 @@ use Rattle.pieces.specs.Legal.{entry_wire, entry_position, after}
 use Rattle.pieces.specs.JumperList.{point_refusal, entry_refusal}
 use Rattle.lists.specs.EntriesChecked.{wires-checked, wire-stored, present-checked, no_wire, absent_wire, position_point, at_node, after-higher, after_lower, after-behind, after_not_behind, entry_not_after, entry_point}
 use Rattle.lists.proofs.check.row_end.Goals as goal
-use Rattle.lists.proofs.check.row_end.Goals.{After-position_refusal, then-node_count-i-via-then-node_count-i, then-node_count-i-via-else-node_count-i+then-not-is_present}
+use Rattle.lists.proofs.check.row_end.Goals.{After-length_of-arg-2-1, After-position_refusal, then-node_count-i-via-then-node_count-i, then-node_count-i-via-else-node_count-i+then-not-is_present}
 
 pub is_present-requires : goal.is_present-requires
 is_present-requires c = wire-stored _ _ (wires-checked _ _ _ _ c.args.net.accepted) c.entry_wire-i.result (omega arith)
@@ -22,8 +22,7 @@ length_of-length-requires c =
     present-checked _ _ (wires-checked _ _ _ _ c.args.net.accepted) c.entry_wire-i.result (omega arith) c.args.stage (sym c.if-not-is_present.ensures)
 
 pub of_wire-line-requires : goal.of_wire-line-requires
-of_wire-line-requires c =
-    present-checked _ _ (wires-checked _ _ _ _ c.args.net.accepted) c.entry_wire-i.result (omega arith) c.args.stage (sym c.if-not-is_present.ensures)
+of_wire-line-requires c = length_of-length-requires (goal.at.of_wire-line-requires c).After-length_of-arg-2-1
 
 pub returns-then-node_count-i : goal.returns-then-node_count-i
 returns-then-node_count-i c =
@@ -34,7 +33,7 @@ returns-then-node_count-i c =
       | then-node_count-i-via-then-node_count-i w ↦ no_wire _ _ _ _ _ _ _ _ (omega arith)
       | then-node_count-i-via-else-node_count-i+then-not-is_present w ↦ absent_wire _ _ _ _ _ _ _ _ (omega arith) (sym w.if-not-is_present.ensures)
     ] in
-    first-here _ _ _ c.requires.first.0 c.requires.below (rw c.entry_wire-i.ensures at on_wire ∙ entry_point s a.list.now a.e c.requires.first.1) refl
+    first-here _ _ _ c.requires.0 c.requires.1.accepted (rw c.entry_wire-i.ensures at on_wire ∙ entry_point s a.list.now a.e (c.requires.1.stands c.requires.0)) refl
 
 pub returns-then-wire-i : goal.returns-then-wire-i
 returns-then-wire-i c =
@@ -48,7 +47,7 @@ returns-then-i-wire c =
     let v = c.loop-d.invariant in
     let ahead : c.args.e < c.loop-d.d = grind arith in
     let behind = v.behind ahead in
-    record { further = ahead; inside = omega arith; accepted = v.accepted; stands = λ p. after-higher _ _ (omega arith) (omega arith) }
+    (ahead, record { inside = omega arith; accepted = v.accepted; stands = λ p. after-higher _ _ (omega arith) (omega arith) })
 
 pub returns-then-before-eq0 : goal.returns-then-before-eq0
 returns-then-before-eq0 c =
@@ -56,7 +55,7 @@ returns-then-before-eq0 c =
     let v = c.loop-d.invariant in
     let d = c.loop-d.d in
     let here : d ≡ a.e = grind (arith, v.behind) in
-    let stands : true ≡ (eqb d 0 || after a.list.now (d - 1) d) = rw here c.requires.first.1 in
+    let stands : true ≡ (eqb d 0 || after a.list.now (d - 1) d) = rw here (c.requires.1.stands c.requires.0) in
     let s = stage_of_net a.net a.stage in
     let outside : refusal 13 d ≡ point_refusal s (entry_wire a.list.now d) (entry_position a.list.now d) d = at_node _ _ _ _ _ _ _ _ (omega arith) in
     first-here _ _ _ (omega arith) v.accepted (outside ∙ entry_point s a.list.now d stands) refl
@@ -77,7 +76,7 @@ judged c =
     let stands : true ≡ (eqb d 0 || after a.list.now (d - 1) d) =
     by (ltb a.e d)
     (λ y. let behind = v.behind (ltb-true _ _ y) in after-behind _ _ (omega (arith, ltb-true _ _ y)) (omega arith) (omega arith))
-    (λ n. let here : d ≡ a.e = omega (arith, ltb-false _ _ n) in rw here c.requires.first.1) in
+    (λ n. let here : d ≡ a.e = omega (arith, ltb-false _ _ n) in rw here (c.requires.1.stands c.requires.0)) in
     (rw (c.of_wire-line.ensures.line, c.length_of-length.ensures.0) at c.position_refusal.ensures)
     ∙ position_point a.net.version a.net.nodes.now a.net.wires.now a.net.obstacles.now a.stage c.entry_wire-i.result c.entry_position-t.result d (omega arith) (sym c.if-not-is_present.ensures)
     ∙ (let on : c.entry_wire-i.result ≡ entry_wire a.list.now d = omega arith in rw (on, c.entry_position-t.ensures) (entry_point _ a.list.now d stands))
