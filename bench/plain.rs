@@ -47,6 +47,7 @@ pub unsafe extern "C" fn plain_write(
 pub unsafe extern "C" fn plain_report(
     stage: u32,
     limit: u32,
+    clearance: u16,
     file: *const u8,
     file_len: usize,
     jumpers: *const u8,
@@ -61,6 +62,7 @@ pub unsafe extern "C" fn plain_report(
     plain::report::report(
         stage,
         limit,
+        clearance,
         file,
         jumpers,
         from_raw_parts_mut(out, out_len),
@@ -71,6 +73,7 @@ pub unsafe extern "C" fn plain_report(
 pub unsafe extern "C" fn plain_repair(
     stage: u32,
     limit: u32,
+    clearance: u16,
     file: *const u8,
     file_len: usize,
     out: *mut u8,
@@ -80,7 +83,7 @@ pub unsafe extern "C" fn plain_repair(
         from_raw_parts(file, file_len),
         from_raw_parts_mut(out, out_len),
     );
-    plain::repair::repair(stage, limit, file, out)
+    plain::repair::repair(stage, limit, clearance, file, out)
 }
 
 #[no_mangle]

@@ -11,6 +11,9 @@ static const uint8_t wires[] = {0, 1, 1};
 /* An obstacle over the points 6 and 7 of it, and the layer that it has in version 2. */
 static const uint8_t obstacle[] = {6, 0, 0, 0, 7, 0, 0, 0, 3};
 
+/* A jumper beside that obstacle. */
+static const uint8_t jumper[] = {1, 5, 0};
+
 /* Net A as DEF text, and another net behind it. */
 static const char text[] = "+ ROUTED metal1 ( 0 0 ) ( 13 * ) ;\n+ ROUTED metal2 ( 0 0 ) ( 0 5 ) ( 3 * ) ;\n";
 static const uint8_t pins[] = {0, 0, 0, 0, 1, 1, 13, 0, 0, 0, 1, 1};
@@ -55,6 +58,19 @@ int main(void) {
     print("write, version 2 with an obstacle", written2);
     print_bytes("file", file2, (size_t)written2.count);
     print("read", antenna_read(file2, (size_t)written2.count));
+
+    static const uint16_t clearances[] = {0, 1, 4, 5, 65535};
+    for (size_t i = 0; i < sizeof clearances / sizeof clearances[0]; i++) {
+        uint8_t records[3 * ANTENNA_RECORD_BYTES], list[ANTENNA_REPAIR_MOST];
+        printf("clearance %u\n", (unsigned)clearances[i]);
+        print("report with a jumper at 5", antenna_report(1, 8, clearances[i], file2, (size_t)written2.count, jumper,
+                                                          sizeof jumper, records, sizeof records));
+        antenna_answer repaired =
+            antenna_repair(1, 8, clearances[i], file2, (size_t)written2.count, list, sizeof list);
+        print("repair", repaired);
+        print_bytes("jumpers", list, (size_t)(ANTENNA_JUMPER_BYTES * repaired.count));
+    }
+
     file2[written2.count - 1] = 17;
     print("read, layer of obstacle 0 over 16", antenna_read(file2, (size_t)written2.count));
     print("write, version 2 with an obstacle of version 1", write_net(2, 8, file2, sizeof file2));

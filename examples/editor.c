@@ -119,21 +119,31 @@ static void print_record(const uint8_t *r) {
            r[7] & ANTENNA_FLAG_SOURCE ? ", source" : "", r[7] & ANTENNA_FLAG_HARMFUL ? ", HARMFUL" : "");
 }
 
-static void show_report(uint32_t stage, uint32_t limit, const buffer *file, const uint8_t *jumpers, size_t jumpers_len) {
+/* What a net is judged by: neither its file nor a jumper list holds it. */
+typedef struct {
+    uint32_t stage, limit;
+    uint16_t clearance; /* the steps to keep free round obstacles */
+} rules;
+
+static void print_rules(rules r) {
+    printf("stage %u, limit %u, clearance %u\n", (unsigned)r.stage, (unsigned)r.limit, (unsigned)r.clearance);
+}
+
+static void show_report(rules r, const buffer *file, const uint8_t *jumpers, size_t jumpers_len) {
     buffer out = {NULL, 0};
     antenna_answer a;
     do {
-        a = antenna_report(stage, limit, file->bytes, file->len, jumpers, jumpers_len, out.bytes, out.len);
+        a = antenna_report(r.stage, r.limit, r.clearance, file->bytes, file->len, jumpers, jumpers_len, out.bytes, out.len);
     } while (grown(&out, a));
     if (a.number != ANTENNA_DONE) print_refusal("report", a);
     for (uint64_t k = 0; k < a.count; k++) print_record(out.bytes + ANTENNA_RECORD_BYTES * k);
     free(out.bytes);
 }
 
-static void mend_file(uint32_t stage, uint32_t limit, const buffer *file) {
+static void mend_file(rules r, const buffer *file) {
     uint8_t list[ANTENNA_REPAIR_MOST];
-    show_report(stage, limit, file, NULL, 0);
-    antenna_answer a = antenna_repair(stage, limit, file->bytes, file->len, list, sizeof list);
+    show_report(r, file, NULL, 0);
+    antenna_answer a = antenna_repair(r.stage, r.limit, r.clearance, file->bytes, file->len, list, sizeof list);
     if (a.number != ANTENNA_DONE) {
         print_refusal("repair", a);
         return;
@@ -142,18 +152,18 @@ static void mend_file(uint32_t stage, uint32_t limit, const buffer *file) {
         const uint8_t *entry = list + ANTENNA_JUMPER_BYTES * k;
         printf("  jumper on wire %u at %u\n", entry[0], get16(entry + 1));
     }
-    show_report(stage, limit, file, list, (size_t)(ANTENNA_JUMPER_BYTES * a.count));
+    show_report(r, file, list, (size_t)(ANTENNA_JUMPER_BYTES * a.count));
 }
 
-static void mend(uint32_t stage, uint32_t limit, const net *n) {
+static void mend(rules r, const net *n) {
     buffer file = {NULL, 0};
-    printf("stage %u, limit %u\n", (unsigned)stage, (unsigned)limit);
-    if (save(n, &file)) mend_file(stage, limit, &file);
+    print_rules(r);
+    if (save(n, &file)) mend_file(r, &file);
     free(file.bytes);
 }
 
 /* Each net of a DEF text, one behind the other, until a call is refused. A pin's layer and flags are a byte each. */
-static void mend_routes(uint32_t stage, uint32_t limit, const char *text, const uint8_t *pins, size_t pins_len) {
+static void mend_routes(rules r, const char *text, const uint8_t *pins, size_t pins_len) {
     buffer file = {NULL, 0};
     size_t at = 0;
     for (;;) {
@@ -165,9 +175,10 @@ static void mend_routes(uint32_t stage, uint32_t limit, const char *text, const 
             print_refusal("route", a);
             break;
         }
-        printf("route of bytes %zu to %zu, stage %u, limit %u\n", at, (size_t)a.place, (unsigned)stage, (unsigned)limit);
+        printf("route of bytes %zu to %zu, ", at, (size_t)a.place);
+        print_rules(r);
         buffer net_file = {file.bytes, (size_t)a.count};
-        mend_file(stage, limit, &net_file);
+        mend_file(r, &net_file);
         at = (size_t)a.place;
     }
     free(file.bytes);
@@ -180,19 +191,19 @@ int main(void) {
     add_node(&n, 0, 0, ANTENNA_FLAG_GATE);
     add_node(&n, 13, 0, ANTENNA_FLAG_GATE);
     add_wire(&n, 0, 1, 1);
-    mend(1, 13, &n);
-    mend(1, 1, &n);
-    mend(1, 0, &n);
-    mend(17, 1, &n);
+    mend((rules){1, 13, 0}, &n);
+    mend((rules){1, 1, 0}, &n);
+    mend((rules){1, 0, 0}, &n);
+    mend((rules){17, 1, 0}, &n);
 
     /* an obstacle over all of the wire but its last point */
     add_obstacle(&n, 2, 0, 12, 0, 1);
-    mend(1, 12, &n);
+    mend((rules){1, 12, 0}, &n);
 
     /* a wire that is neither upright nor level */
     add_node(&n, 20, 20, 0);
     add_wire(&n, 1, 1, 1);
-    mend(1, 12, &n);
+    mend((rules){1, 12, 0}, &n);
 
     /* two gates 12 steps apart on layer 3, and a strap under the wire: a jumper climbs, and the strap does not hinder it */
     static net strapped;
@@ -200,19 +211,29 @@ int main(void) {
     add_node(&strapped, 12, 0, ANTENNA_FLAG_GATE);
     add_wire(&strapped, 0, 3, 1);
     add_obstacle(&strapped, 2, 0, 10, 0, 2);
-    mend(3, 6, &strapped);
+    mend((rules){3, 6, 0}, &strapped);
 
     /* a strap over the wire does */
     add_obstacle(&strapped, 2, 0, 10, 0, 4);
-    mend(3, 6, &strapped);
+    mend((rules){3, 6, 0}, &strapped);
 
     /* there is no layer 17 */
     add_obstacle(&strapped, 2, 0, 10, 0, 17);
-    mend(3, 6, &strapped);
+    mend((rules){3, 6, 0}, &strapped);
+
+    /* two gates 12 steps apart and an obstacle 2 steps beside the wire: it bars points of it from clearance 2 on, and at 5 all of them */
+    static net spaced;
+    add_node(&spaced, 0, 0, ANTENNA_FLAG_GATE);
+    add_node(&spaced, 12, 0, ANTENNA_FLAG_GATE);
+    add_wire(&spaced, 0, 3, 1);
+    add_obstacle(&spaced, 4, 2, 8, 6, 3);
+    mend((rules){3, 6, 1}, &spaced);
+    mend((rules){3, 6, 2}, &spaced);
+    mend((rules){3, 6, 5}, &spaced);
 
     /* two routes in a text, a gate at the start of both; behind them a word that no route begins with */
     static const uint8_t pins[ANTENNA_PIN_BYTES] = {0, 0, 0, 0, 1, ANTENNA_FLAG_GATE};
-    mend_routes(1, 20, "+ ROUTED metal1 ( 0 0 ) ( 13 * ) NEW metal2 ( 13 0 ) ( * 30 ) ;\n"
-                       "+ ROUTED metal1 ( 0 0 ) ( * 40 ) ( 9 * ) ;\nEND", pins, sizeof pins);
+    mend_routes((rules){1, 20, 0}, "+ ROUTED metal1 ( 0 0 ) ( 13 * ) NEW metal2 ( 13 0 ) ( * 30 ) ;\n"
+                                   "+ ROUTED metal1 ( 0 0 ) ( * 40 ) ( 9 * ) ;\nEND", pins, sizeof pins);
     return 0;
 }

@@ -30,7 +30,7 @@
  * to change their programs; from 1 on only a rise of the major number may.
  */
 #define ANTENNA_VERSION_MAJOR 0
-#define ANTENNA_VERSION_MINOR 5
+#define ANTENNA_VERSION_MINOR 6
 
 /* The newest version of net files: all from 1 up to it are read and written. */
 #define ANTENNA_NEWEST_VERSION 2
@@ -75,8 +75,8 @@ enum {
     ANTENNA_REFUSED_OBSTACLE_CORNERS = 11, /* corners reversed: the obstacle, from 0 */
     ANTENNA_REFUSED_JUMPER_LIST = 12,      /* jumper list not in threes: 0; or an entry not after the one before: the entry, from 0 */
     ANTENNA_REFUSED_JUMPER_POINT = 13,     /* no such wire, a wire absent at the stage, or a position outside it: the entry */
-    ANTENNA_REFUSED_JUMPER_BARRED = 14,    /* an obstacle of at least the wire's layer holds the point: the entry */
-    ANTENNA_REFUSED_NO_LEGAL_SET = 15,     /* no set of jumpers makes the net safe: 0 */
+    ANTENNA_REFUSED_JUMPER_BARRED = 14,    /* the point is barred at the clearance given: the entry */
+    ANTENNA_REFUSED_NO_LEGAL_SET = 15,     /* no set of jumpers on points that are not barred makes the net safe: 0 */
     ANTENNA_REFUSED_BUFFER = 16,           /* more bytes are needed than were lent: the bytes needed */
     ANTENNA_REFUSED_DEF_FORM = 17,         /* the text leaves the form: the first byte of the word, or the text's length where it ends early */
     ANTENNA_REFUSED_DEF_POINT = 18,        /* a path after the first starts at an unknown point, or a later point of a path is a node already: the byte of its `(` */
@@ -109,9 +109,10 @@ typedef struct {
  * wires from wire 1 on (parent, layer, factor: 8 bits each), obstacles
  * (x1, y1, x2, y2: 16 bits each; in version 2 then layer: 8 bits, 1 to 16).
  *
- * An obstacle bars the points it holds, its border included, of wires whose
- * layer is at most its own. A version 1 obstacle reads as layer 16: it bars
- * points of every wire.
+ * An obstacle counts for wires whose layer is at most its own, and bars points
+ * of these: those it holds, its border included, and those within the
+ * clearance of the call (see antenna_report). A version 1 obstacle reads as
+ * layer 16: it counts for every wire.
  */
 antenna_answer antenna_read(const uint8_t *file, size_t file_len);
 
@@ -133,6 +134,16 @@ antenna_answer antenna_write(uint32_t version,
  * Count: the number of records, that is nodes - wires of the stage + jumpers;
  * so ANTENNA_RECORD_BYTES for each node and each jumper are always enough.
  *
+ * Clearance: 0 to 65535 steps. A point (x, y) is barred if, for an obstacle
+ * that counts for its wire, it lies at most so far outside in x and at most so
+ * far outside in y: x1 <= x + clearance, x <= x2 + clearance, y1 <= y +
+ * clearance and y <= y2 + clearance, in whole numbers, so that nothing wraps.
+ * With 0 an obstacle bars just the points it holds, its border included. Which
+ * points are barred is all that a clearance changes: 14 here, 15 and the list
+ * of antenna_repair. A program made for a header before 0.6 passes 0 and has
+ * the answers that it had. A wider number is to be tested before the call: C
+ * passes 65536 as 0.
+ *
  * Jumper list: wire (8 bits), position (16 bits) each, strictly rising by
  * wire, then position. Position t lies t steps from node i towards its parent.
  *
@@ -143,19 +154,20 @@ antenna_answer antenna_write(uint32_t version,
  * lower of its two jumper positions. Records rise by number, then position.
  * A piece is harmful if it has a gate, no source, and weighs more than limit.
  */
-antenna_answer antenna_report(uint32_t stage, uint32_t limit,
+antenna_answer antenna_report(uint32_t stage, uint32_t limit, uint16_t clearance,
                               const uint8_t *file, size_t file_len,
                               const uint8_t *jumpers, size_t jumpers_len,
                               uint8_t *out, size_t out_len);
 
 /*
  * Writes a smallest set of jumpers after which no piece of the stage is
- * harmful, as a jumper list. Tries refusals 1 to 11 with 20, 15, then 16.
- * Count: the number of jumpers. No legal set has fewer; which of several
- * smallest sets is written is left open. ANTENNA_REPAIR_MOST bytes are
- * always enough.
+ * harmful, as a jumper list. None stands on a point barred at the clearance
+ * (see antenna_report). Tries refusals 1 to 11 with 20, 15, then 16.
+ * Count: the number of jumpers. No legal set at this clearance has fewer;
+ * which of several smallest sets is written is left open. ANTENNA_REPAIR_MOST
+ * bytes are always enough.
  */
-antenna_answer antenna_repair(uint32_t stage, uint32_t limit,
+antenna_answer antenna_repair(uint32_t stage, uint32_t limit, uint16_t clearance,
                               const uint8_t *file, size_t file_len,
                               uint8_t *out, size_t out_len);
 

@@ -4,7 +4,7 @@
 #![allow(dead_code)]
 
 pub const VERSION_MAJOR: u32 = 0;
-pub const VERSION_MINOR: u32 = 5;
+pub const VERSION_MINOR: u32 = 6;
 
 pub const NEWEST_VERSION: u32 = 2;
 
@@ -71,6 +71,7 @@ extern "C" {
     fn antenna_report(
         stage: u32,
         limit: u32,
+        clearance: u16,
         file: *const u8,
         file_len: usize,
         jumpers: *const u8,
@@ -81,6 +82,7 @@ extern "C" {
     fn antenna_repair(
         stage: u32,
         limit: u32,
+        clearance: u16,
         file: *const u8,
         file_len: usize,
         out: *mut u8,
@@ -119,11 +121,19 @@ pub fn write(version: u32, nodes: &[u8], wires: &[u8], obstacles: &[u8], out: &m
     }
 }
 
-pub fn report(stage: u32, limit: u32, file: &[u8], jumpers: &[u8], out: &mut [u8]) -> Answer {
+pub fn report(
+    stage: u32,
+    limit: u32,
+    clearance: u16,
+    file: &[u8],
+    jumpers: &[u8],
+    out: &mut [u8],
+) -> Answer {
     unsafe {
         antenna_report(
             stage,
             limit,
+            clearance,
             file.as_ptr(),
             file.len(),
             jumpers.as_ptr(),
@@ -134,11 +144,12 @@ pub fn report(stage: u32, limit: u32, file: &[u8], jumpers: &[u8], out: &mut [u8
     }
 }
 
-pub fn repair(stage: u32, limit: u32, file: &[u8], out: &mut [u8]) -> Answer {
+pub fn repair(stage: u32, limit: u32, clearance: u16, file: &[u8], out: &mut [u8]) -> Answer {
     unsafe {
         antenna_repair(
             stage,
             limit,
+            clearance,
             file.as_ptr(),
             file.len(),
             out.as_mut_ptr(),

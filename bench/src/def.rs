@@ -45,7 +45,7 @@ fn worst(contenders: &Contenders<libraries::Def>) {
 }
 
 pub fn def() {
-    let contenders = Contenders::<libraries::Def>::new(1, libraries::def);
+    let contenders = Contenders::<libraries::Def>::new(1, 0, libraries::def);
     let mut out = vec![0; ENOUGH];
     for nodes in SIZES {
         let texts = texts(nodes, 50);

@@ -12,7 +12,8 @@ const ALL: f64 = 150_000.0;
 const FEWEST: f64 = 20.0;
 const FEWEST_SLOW: f64 = 2.0;
 
-/// The copies of one call in the proved library, in plain Rust, and in the library of an earlier commit if it has the call and takes the net files.
+/// The copies of one call in the proved library, in plain Rust, and in the library of an earlier commit if it has the call and takes the
+/// net files and the clearance.
 pub struct Contenders<F: ?Sized> {
     now: Vec<Box<F>>,
     plain: Vec<Box<F>>,
@@ -20,9 +21,13 @@ pub struct Contenders<F: ?Sized> {
 }
 
 impl<F: ?Sized> Contenders<F> {
-    /// For net files of this version.
-    pub fn new(version: u32, copies: impl Fn(&str) -> Vec<Box<F>>) -> Contenders<F> {
-        let taking = |library| match takes(library, version) {
+    /// For net files of this version, and this clearance: 0 where the call takes none.
+    pub fn new(
+        version: u32,
+        clearance: u16,
+        copies: impl Fn(&str) -> Vec<Box<F>>,
+    ) -> Contenders<F> {
+        let taking = |library| match takes(library, version, clearance) {
             true => copies(library),
             false => Vec::new(),
         };

@@ -1,4 +1,4 @@
-//! A net and a jumper list at a stage and a limit, and what the library says of them.
+//! A net and a jumper list at a stage, a limit and a clearance, and what the library says of them.
 
 use crate::library::{self, Answer, JUMPER_BYTES, RECORD_BYTES};
 use crate::list::List;
@@ -12,6 +12,7 @@ pub struct Case {
     pub list: List,
     pub stage: u32,
     pub limit: u32,
+    pub clearance: u16,
 }
 
 impl Case {
@@ -19,6 +20,7 @@ impl Case {
         name: &str,
         stage: u32,
         limit: u32,
+        clearance: u16,
         list: Option<Result<List, Refusal>>,
     ) -> Result<Case, Refusal> {
         Ok(Case {
@@ -27,20 +29,23 @@ impl Case {
             list: list.unwrap_or_else(|| Ok(List::default()))?,
             stage,
             limit,
+            clearance,
         })
     }
 
     /// Every piece.
     pub fn report(&self) -> Result<Vec<Piece>, Refusal> {
         let (net, list) = (&self.net.file, &self.list.bytes);
-        let call = |out: &mut [u8]| library::report(self.stage, self.limit, net, list, out);
+        let (stage, limit, clearance) = (self.stage, self.limit, self.clearance);
+        let call = |out: &mut [u8]| library::report(stage, limit, clearance, net, list, out);
         let records = called(call, RECORD_BYTES).map_err(|answer| self.refusal(answer))?;
         Ok(records.chunks(RECORD_BYTES).map(Piece::of_record).collect())
     }
 
     /// A smallest jumper list.
     pub fn repair(&self) -> Result<List, Refusal> {
-        let call = |out: &mut [u8]| library::repair(self.stage, self.limit, &self.net.file, out);
+        let (stage, limit, clearance) = (self.stage, self.limit, self.clearance);
+        let call = |out: &mut [u8]| library::repair(stage, limit, clearance, &self.net.file, out);
         let bytes = called(call, JUMPER_BYTES).map_err(|answer| self.refusal(answer))?;
         Ok(List::of_bytes(bytes))
     }

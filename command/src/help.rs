@@ -19,10 +19,12 @@ A refusal is printed in words on standard error.
 ";
 
 pub const REPORT: &str = "\
-antenna report NET... --limit L [--stage S] [--jumpers FILE] [--json]
+antenna report NET... --limit L [--stage S] [--clearance C] [--jumpers FILE] [--json]
 
 Prints every piece of the stage (all wires of layer at most S; default 16) with the jumpers in place: its name (its lowest
 node, or its wire and the lower of its two jumpers), weight, gate, source, harmful, and layers. Of several nets a line each.
+  --clearance C    steps to keep free round obstacles, 0 to 65535; default 0. No jumper may stand at a point that is at most C
+                   outside an obstacle in x and at most C outside it in y, if the obstacle counts for the point's wire
   --jumpers FILE   a line 'WIRE POSITION' for each jumper, after a line 'jumpers COUNT' or without; one FILE for all
                    nets, or one for each in their order
   --json           an object on one line for each net
@@ -30,30 +32,34 @@ Exit status 1 if a piece is harmful: it has a gate, no source, and weighs more t
 ";
 
 pub const REPAIR: &str = "\
-antenna repair NET... --limit L [--stage S] [--json]
+antenna repair NET... --limit L [--stage S] [--clearance C] [--json]
 
 Prints a smallest set of jumpers, a line 'WIRE POSITION' for each, after which no piece of the stage is harmful. Position t lies
 t steps from the wire's own node towards its parent. 'report', 'check' and 'draw' take the lines by --jumpers. Of several nets a
 line each: how many jumpers.
+  --clearance C    as in 'report'
   --json           an object on one line for each net
 Exit status 1 if no set will do.
 ";
 
 pub const CHECK: &str = "\
-antenna check NET... --limit L --jumpers FILE [--stage S] [--json]
+antenna check NET... --limit L --jumpers FILE [--stage S] [--clearance C] [--json]
 
-Says whether a set of jumpers is legal at the stage, and whether a smaller one is. Of several nets a line each.
+Says whether a set of jumpers is legal at the stage and the clearance, and whether a smaller one is. Of several nets a line each.
+  --clearance C    as in 'report'
   --jumpers FILE   as in 'report'
   --json           an object on one line for each net
 Exit status 1 if it is not legal.
 ";
 
 pub const DRAW: &str = "\
-antenna draw NET --limit L [--stage S] [--jumpers FILE] [-o FILE]
+antenna draw NET --limit L [--stage S] [--clearance C] [--jumpers FILE] [-o FILE]
 
 Draws the net as SVG: wires coloured by layer, vias, harmful pieces with their weights, gates, sources, obstacles, jumpers. Wires
 that the stage does not have are broken lines. Obstacles of version 2 have their layer on them (L3 is layer 3) and are faint if they
-do not count for the stage's wires. Of more than 510 jumpers, the most that a smallest set can have, none has a label.
+do not count for the stage's wires. Round the others a clearance above 0 is drawn as a border.
+Of more than 510 jumpers, the most that a smallest set can have, none has a label.
+  --clearance C    as in 'report'
   --jumpers FILE   as in 'report'
   -o FILE          or --output FILE: where the picture goes, standard output if it is not given
 Exit status 1 if a piece is harmful; the picture is written all the same.
@@ -67,7 +73,8 @@ Turns a net in text form into a net file. A line for each record, '#' starts a c
   node 0 at 10 20 gate source      nodes rise from 0; 'gate' and 'source' where they hold
   wire 1 to 0 layer 1 factor 3     wire 1 goes from node 1 to its parent 0
   obstacle 0 0 to 12 4 layer 3     two corners, the lower one first; it bars points of wires of layer 3 and below
-In version 1 an obstacle has no 'layer' and bars points of every wire.
+In version 1 an obstacle has no 'layer' and bars points of every wire. Stage, limit and clearance are no part of a net: the
+commands that judge one take them as options.
 ";
 
 pub const UNPACK: &str = "\
@@ -89,7 +96,9 @@ because the library's form cannot say two changes of layer there: one point of e
   --grid N         a step is N units of FILE, and every coordinate a multiple of N
   --pins FILE      a line 'pin NET at X Y LAYER' for each, then 'gate' and 'source' where they hold; without pins no net has a gate
   --obstacles FILE a line 'obstacle X1 Y1 to X2 Y2' for each; they bar points of every wire (net files of version 1; 'antenna
-                   unpack --help' says how to give them layers)
+                   unpack --help' says how to give them layers). A net gets those that hold a point of one of its wires.
+                   Those beside its wires, which a clearance counts too, are left out: to keep a clearance, make every
+                   obstacle here larger by it on each side, and give 'repair' and the others no --clearance
   --text           prints the nets that are read in the library's form
 Pins and obstacles have the coordinates of FILE. All nets are moved alike: the lower left corner of the die area becomes 0 0.
 Exit status 2 if a net is not read; a note does not change it.

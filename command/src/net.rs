@@ -26,6 +26,16 @@ pub struct Obstacle {
     pub layer: u8,
 }
 
+impl Obstacle {
+    /// The rectangle of the points that it bars of a wire that it counts for. No point lies outside 0 to 65,535.
+    pub fn barred(&self, clearance: u16) -> [u16; 4] {
+        let [x1, y1, x2, y2] = self.corners;
+        let [x1, y1] = [x1, y1].map(|low| low.saturating_sub(clearance));
+        let [x2, y2] = [x2, y2].map(|high| high.saturating_add(clearance));
+        [x1, y1, x2, y2]
+    }
+}
+
 pub struct Net {
     pub file: Vec<u8>,
     pub version: u32,
@@ -77,7 +87,7 @@ impl Net {
         u32::from(self.layer(wire)) <= stage
     }
 
-    /// Does the obstacle bar the points of the wire that it holds?
+    /// Does the obstacle bar points of the wire?
     pub fn counts(&self, obstacle: &Obstacle, wire: usize) -> bool {
         self.layer(wire) <= obstacle.layer
     }

@@ -12,6 +12,7 @@ pub struct Options {
     pub jumpers: Vec<String>,
     stage: Option<u32>,
     limit: Option<u32>,
+    clearance: Option<u16>,
     pub json: bool,
     pub out: Option<String>,
     grid: Option<u32>,
@@ -75,13 +76,19 @@ impl Options {
         let Some(value) = value.or_else(next) else {
             return Err(usage("wants a value".into()));
         };
-        let value_of =
-            || number(value, u32::MAX.into()).map_err(|no| usage(format!("wants a number: {no}")));
+        let up_to = |most: u32| match number(value, most.into()) {
+            Ok(value) => Ok(value as u32),
+            Err(no) => Err(usage(format!("wants a number: {no}"))),
+        };
         let twice = match name {
-            "--limit" => self.limit.replace(value_of()? as u32).is_some(),
-            "--stage" => self.stage.replace(value_of()? as u32).is_some(),
+            "--limit" => self.limit.replace(up_to(u32::MAX)?).is_some(),
+            "--stage" => self.stage.replace(up_to(u32::MAX)?).is_some(),
+            "--clearance" => {
+                let clearance = up_to(u16::MAX.into())? as u16;
+                self.clearance.replace(clearance).is_some()
+            }
             "--output" => self.out.replace(value.into()).is_some(),
-            "--grid" => self.grid.replace(value_of()? as u32).is_some(),
+            "--grid" => self.grid.replace(up_to(u32::MAX)?).is_some(),
             "--pins" => self.pins.replace(value.into()).is_some(),
             "--obstacles" => self.obstacles.replace(value.into()).is_some(),
             _ => {
@@ -128,6 +135,10 @@ impl Options {
 
     pub fn stage(&self) -> u32 {
         self.stage.unwrap_or(DEFAULT_STAGE)
+    }
+
+    pub fn clearance(&self) -> u16 {
+        self.clearance.unwrap_or(0)
     }
 
     /// The units of the file in a step.

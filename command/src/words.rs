@@ -159,12 +159,12 @@ fn refusal(answer: Answer) -> String {
             "positions run from 1 to the wire's length less 1",
         ),
         library::REFUSED_JUMPER_BARRED => (
-            format!("jumper {place}: an obstacle bars this point"),
+            format!("jumper {place}: an obstacle holds this point, or is within the clearance of it in x and in y"),
             "move the jumper along the wire",
         ),
         library::REFUSED_NO_LEGAL_SET => (
             "no set of jumpers will do".into(),
-            "raise the limit, move an obstacle, or give the net a source",
+            "raise the limit, lower the clearance if one is given, move an obstacle, or give the net a source",
         ),
         library::REFUSED_DEF_FORM => (
             "the text leaves the library's form".into(),

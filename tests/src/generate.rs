@@ -1,5 +1,6 @@
 //! Random nets, jumper lists and damaged files.
 
+pub mod clearance;
 pub mod def;
 pub mod late;
 pub mod obstacle;
@@ -7,6 +8,7 @@ pub mod obstacle;
 use crate::random::Random;
 use crate::reference::net::{file, Net, Node, Wire};
 use crate::reference::report::{free_points, legal, list_of, Point};
+use clearance::clearance;
 use obstacle::{damage_obstacle, obstacle, on_layers};
 
 /// How a random net is made.
@@ -146,14 +148,14 @@ pub fn limit(random: &mut Random, net: &Net) -> u32 {
     }
 }
 
-/// Some free point is held by an obstacle, which does not count for its wire.
-fn held_and_free(net: &Net, stage: u32) -> bool {
-    free_points(&on_layers(net, |_| 16), stage) != free_points(net, stage)
+/// Some free point is as near to an obstacle as one that is barred; the obstacle does not count for its wire.
+fn near_and_free(net: &Net, stage: u32, clearance: u16) -> bool {
+    free_points(&on_layers(net, |_| 16), stage, clearance) != free_points(net, stage, clearance)
 }
 
-/// A net, a stage and a limit with at most `most` points where a jumper may stand; more often one that needs jumpers, and in version 2 one
+/// A net, a stage, a limit and a clearance with at most `most` points where a jumper may stand; more often one that needs jumpers, and in version 2 one
 /// where an obstacle's layer decides.
-pub fn small_case(random: &mut Random, most: usize) -> (Net, u32, u32) {
+pub fn small_case(random: &mut Random, most: usize) -> (Net, u32, u32, u16) {
     let version = version(random);
     loop {
         let nodes = random.range(1, 8) as usize;
@@ -172,16 +174,17 @@ pub fn small_case(random: &mut Random, most: usize) -> (Net, u32, u32) {
         };
         let mut net = net(random, shape);
         let stage = stage(random, &net);
-        if version == 2 && random.chance(2, 3) && !held_and_free(&net, stage) {
+        let clearance = clearance(random, &net);
+        if version == 2 && random.chance(2, 3) && !near_and_free(&net, stage, clearance) {
             continue;
         }
         for _ in 0..10 {
-            if free_points(&net, stage).len() <= most {
+            if free_points(&net, stage, clearance).len() <= most {
                 let limit = limit(random, &net);
-                if random.chance(2, 3) && legal(&net, stage, limit, &[]) {
+                if random.chance(2, 3) && legal(&net, stage, limit, clearance, &[]) {
                     break;
                 }
-                return (net, stage, limit);
+                return (net, stage, limit, clearance);
             }
             let o = obstacle(random, &net);
             net.obstacles.push(o);
@@ -201,8 +204,8 @@ pub fn stage(random: &mut Random, net: &Net) -> u32 {
     }
 }
 
-/// A net of 100 to 256 nodes, a stage and a limit; more often one that needs jumpers.
-pub fn large_case(random: &mut Random) -> (Net, u32, u32) {
+/// A net of 100 to 256 nodes, a stage, a limit and a clearance; more often one that needs jumpers.
+pub fn large_case(random: &mut Random) -> (Net, u32, u32, u16) {
     loop {
         let shape = Shape {
             version: version(random),
@@ -218,8 +221,9 @@ pub fn large_case(random: &mut Random) -> (Net, u32, u32) {
         } else {
             limit(random, &net)
         };
-        if random.chance(1, 4) || !legal(&net, stage, limit, &[]) {
-            return (net, stage, limit);
+        let clearance = clearance(random, &net);
+        if random.chance(1, 4) || !legal(&net, stage, limit, clearance, &[]) {
+            return (net, stage, limit, clearance);
         }
     }
 }
@@ -390,8 +394,8 @@ pub fn any_file(random: &mut Random) -> Vec<u8> {
 }
 
 /// Some of the points where a jumper may stand, rising.
-pub fn jumpers(random: &mut Random, net: &Net, stage: u32) -> Vec<Point> {
-    let points = free_points(net, stage);
+pub fn jumpers(random: &mut Random, net: &Net, stage: u32, clearance: u16) -> Vec<Point> {
+    let points = free_points(net, stage, clearance);
     let one = random.pick(&[0, 1, 3, 10]);
     points
         .into_iter()
@@ -399,13 +403,20 @@ pub fn jumpers(random: &mut Random, net: &Net, stage: u32) -> Vec<Point> {
         .collect()
 }
 
+/// One point more, in its place; once if it is there.
+fn insert(points: &mut Vec<Point>, point: Point) {
+    points.push(point);
+    points.sort();
+    points.dedup();
+}
+
 /// A jumper list, good or damaged.
-pub fn jumper_list(random: &mut Random, net: &Net, stage: u32) -> Vec<u8> {
-    let mut points = jumpers(random, net, stage);
+pub fn jumper_list(random: &mut Random, net: &Net, stage: u32, clearance: u16) -> Vec<u8> {
+    let mut points = jumpers(random, net, stage, clearance);
     for _ in 0..random.pick(&[0, 0, 0, 1, 1, 2]) {
         let count = points.len() as u64;
         let at = random.below(count + 1) as usize;
-        match random.below(6) {
+        match random.below(7) {
             0 if count > 0 => {
                 let at = random.below(count) as usize;
                 points.insert(at, points[at]);
@@ -423,18 +434,22 @@ pub fn jumper_list(random: &mut Random, net: &Net, stage: u32) -> Vec<u8> {
                 let i = random.range(1, net.wires.len() as u64) as usize;
                 let length = net.length(i) as u64;
                 let t = random.pick(&[0, 1, length.saturating_sub(1), length, length + 1]);
-                points.push((i, t.min(65535) as usize));
-                points.sort();
-                points.dedup();
+                insert(&mut points, (i, t.min(65535) as usize));
             }
             4 | 5 if !net.wires.is_empty() => {
                 // inside a wire, barred or not
                 let i = random.range(1, net.wires.len() as u64) as usize;
                 let length = net.length(i) as u64;
                 if length > 1 {
-                    points.push((i, random.range(1, length - 1) as usize));
-                    points.sort();
-                    points.dedup();
+                    insert(&mut points, (i, random.range(1, length - 1) as usize));
+                }
+            }
+            6 if clearance > 0 => {
+                // barred, but not without the clearance
+                let mut near = free_points(net, stage, 0);
+                near.retain(|&(i, t)| net.barred(i, t, clearance));
+                if !near.is_empty() {
+                    insert(&mut points, random.pick(&near));
                 }
             }
             _ => {}

@@ -23,6 +23,6 @@ pub fn root() -> PathBuf {
 
 pub type Read = fn(&[u8]) -> Answer;
 pub type Write = fn(u32, &[u8], &[u8], &[u8], &mut [u8]) -> Answer;
-pub type Report = fn(u32, u32, &[u8], &[u8], &mut [u8]) -> Answer;
-pub type Repair = fn(u32, u32, &[u8], &mut [u8]) -> Answer;
+pub type Report = fn(u32, u32, u16, &[u8], &[u8], &mut [u8]) -> Answer;
+pub type Repair = fn(u32, u32, u16, &[u8], &mut [u8]) -> Answer;
 pub type Def = fn(&[u8], usize, &[u8], &[u8], &mut [u8]) -> Answer;

@@ -79,7 +79,15 @@ fn of_def() -> usize {
 /// The most that report takes with jumpers at all points where they may stand.
 fn of_long_lists() -> usize {
     let mut random = Random::new(5);
-    let taken = [(1, 0), (1, 16), (2, 0), (2, 16)].map(|(version, obstacles)| {
+    let kinds = [
+        (1, 0, 0),
+        (1, 16, 0),
+        (1, 16, 1),
+        (2, 0, 0),
+        (2, 16, 0),
+        (2, 16, 1),
+    ];
+    let taken = kinds.map(|(version, obstacles, clearance)| {
         let shape = Shape {
             version,
             nodes: 256,
@@ -87,15 +95,18 @@ fn of_long_lists() -> usize {
             obstacles,
         };
         let net = net(&mut random, shape);
-        let (file, list) = (net.file(), list_of(&free_points(&net, 16)));
+        let (file, list) = (net.file(), list_of(&free_points(&net, 16, clearance)));
         let records = 256 + list.len() / library::JUMPER_BYTES;
         let mut out = vec![0; library::RECORD_BYTES * records];
-        taken(|| assert_eq!(library::report(16, 0, &file, &list, &mut out).number, 0))
+        taken(|| {
+            let answer = library::report(16, 0, clearance, &file, &list, &mut out);
+            assert_eq!(answer.number, 0);
+        })
     });
     taken.into_iter().max().unwrap()
 }
 
-/// Each call with the most stack that it took, on nets of 256 nodes, and what the header says is enough.
+/// Each call with the most stack that it took, on nets of 256 nodes, without a clearance and with one, and what the header says is enough.
 pub fn of_calls() -> [(&'static str, usize, usize); 5] {
     let mut random = Random::new(4);
     let mut nets: Vec<_> = worst().into_iter().map(|(_, net)| net).collect();
@@ -110,12 +121,12 @@ pub fn of_calls() -> [(&'static str, usize, usize); 5] {
     }
     let none = taken(|| {});
     let mut most = [0; 4];
-    for net in nets {
+    for (net, clearance) in nets.iter().flat_map(|net| [(net, 0), (net, 1)]) {
         let (file, limit) = (net.file(), (net.total_weight() / 7) as u32);
         let (mut out, mut list) = (vec![0; 12 * 1024], vec![0; library::REPAIR_MOST]);
         let mut count = 0;
         let repair = taken(|| {
-            let answer = library::repair(16, limit, &file, &mut list);
+            let answer = library::repair(16, limit, clearance, &file, &mut list);
             assert!([library::DONE, library::REFUSED_NO_LEGAL_SET].contains(&answer.number));
             count = answer.count as usize;
         });
@@ -128,7 +139,10 @@ pub fn of_calls() -> [(&'static str, usize, usize); 5] {
         let calls = [
             taken(|| assert_eq!(library::read(&file).number, 0)),
             write,
-            taken(|| assert_eq!(library::report(16, limit, &file, &list, &mut out).number, 0)),
+            taken(|| {
+                let answer = library::report(16, limit, clearance, &file, &list, &mut out);
+                assert_eq!(answer.number, 0);
+            }),
             repair,
         ];
         for (most, taken) in most.iter_mut().zip(calls) {

@@ -46,3 +46,32 @@ fn header_in_cpp() {
     std::fs::write(&source, text).unwrap();
     assert_eq!(printed("g++", &["-std=c++11"], &source), "");
 }
+
+/// A call as headers before 0.6 had it, without a clearance, is not compiled: its parameters do not move to others' places unseen.
+#[test]
+fn calls_without_a_clearance() {
+    for (name, call) in [
+        (
+            "report",
+            "antenna_report(1, 13, file, 41, file, 0, out, 24)",
+        ),
+        ("repair", "antenna_repair(1, 13, file, 41, out, 24)"),
+    ] {
+        for (given, compiled) in [(call.into(), false), (call.replace("13,", "13, 0,"), true)] {
+            let source = Path::new(FOLDER).join(format!("without-{name}-{compiled}.c"));
+            let text = format!(
+                "#include <antenna.h>\nantenna_answer call(const uint8_t *file, uint8_t *out) {{ return {given}; }}\n"
+            );
+            std::fs::write(&source, text).unwrap();
+            let ran = Command::new("gcc")
+                .args(["-fsyntax-only", "-I"])
+                .arg(root().join("include"))
+                .arg(&source)
+                .output()
+                .unwrap();
+            let told = String::from_utf8_lossy(&ran.stderr);
+            assert_eq!(ran.status.success(), compiled, "{given}: {told}");
+            assert_eq!(told.contains("too few arguments"), !compiled, "{told}");
+        }
+    }
+}

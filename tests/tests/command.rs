@@ -1,5 +1,9 @@
 //! The command for people, run whole, and the sample nets.
 
+#[path = "command/borders.rs"]
+mod borders;
+#[path = "command/clearance.rs"]
+mod clearance;
 #[path = "command/pictures.rs"]
 mod pictures;
 #[path = "command/several.rs"]
@@ -100,10 +104,17 @@ fn samples_and_their_answers() {
             };
             answers += 1;
             let (case, answer) = line.split_once(": ").unwrap();
+            let (case, clearance) = match case.split_once(" clearance ") {
+                Some((case, clearance)) => (case, Some(clearance)),
+                None => (case, None),
+            };
             let (stage, limit) = case.split_once(" limit ").unwrap();
-            let ran = antenna(&["repair", &name, "--stage", stage, "--limit", limit], &[]);
+            let mut words = vec!["repair", &name, "--stage", stage, "--limit", limit];
+            words.extend(clearance.iter().flat_map(|c| ["--clearance", c]));
+            let ran = antenna(&words, &[]);
             let (stage, limit) = (stage.parse().unwrap(), limit.parse().unwrap());
-            let least = table::least(&net, stage, limit);
+            let clearance = clearance.map_or(0, |c| c.parse().unwrap());
+            let least = table::least(&net, stage, limit, clearance);
             if answer == "refused 15" {
                 assert_eq!(least, None, "{name}: {line}");
                 assert_eq!(ran.status, 1);
@@ -116,7 +127,10 @@ fn samples_and_their_answers() {
             let count = format!("jumpers {}", set.len());
             assert_eq!(ran.text.lines().next(), Some(count.as_str()));
             assert_eq!(least, Some(set.len()), "{name}: {line}");
-            assert!(legal(&net, stage, limit, &set), "{name}: {set:?}");
+            assert!(
+                legal(&net, stage, limit, clearance, &set),
+                "{name}: {set:?}"
+            );
             match answer.split_once(" at ") {
                 None => assert_eq!(answer, count, "{name}"),
                 Some((start, list)) => {
@@ -343,9 +357,10 @@ fn jumper_lists_in_text_form() {
 /// Each command with the options it takes, and with one that it does not.
 #[test]
 fn options_of_each_command() {
-    const VALUED: [&str; 8] = [
+    const VALUED: [&str; 9] = [
         "--limit",
         "--stage",
+        "--clearance",
         "--jumpers",
         "--output",
         "-o",
@@ -354,12 +369,25 @@ fn options_of_each_command() {
         "--obstacles",
     ];
     for (name, taken) in [
-        ("report", &["--limit", "--stage", "--jumpers", "--json"][..]),
-        ("repair", &["--limit", "--stage", "--json"]),
-        ("check", &["--limit", "--stage", "--jumpers", "--json"]),
+        (
+            "report",
+            &["--limit", "--stage", "--clearance", "--jumpers", "--json"][..],
+        ),
+        ("repair", &["--limit", "--stage", "--clearance", "--json"]),
+        (
+            "check",
+            &["--limit", "--stage", "--clearance", "--jumpers", "--json"],
+        ),
         (
             "draw",
-            &["--limit", "--stage", "--jumpers", "--output", "-o"],
+            &[
+                "--limit",
+                "--stage",
+                "--clearance",
+                "--jumpers",
+                "--output",
+                "-o",
+            ],
         ),
         ("pack", &["--output", "-o"]),
         ("unpack", &["--output", "-o"]),
@@ -431,6 +459,36 @@ fn values_of_options() {
             &["report", "a.net", "--limit=3", "--json=yes"],
             "--json takes no value",
         ),
+        (
+            &["repair", "a.net", "--limit=3", "--clearance=65536"],
+            "--clearance wants a number: '65536' is no number from 0 to 65535",
+        ),
+        (
+            &["check", "a.net", "--limit=3", "--clearance", "x"],
+            "--clearance wants a number",
+        ),
+        (
+            &["draw", "a.net", "--limit=3", "--clearance=-1"],
+            "--clearance wants a number",
+        ),
+        (
+            &["report", "a.net", "--limit=3", "--clearance="],
+            "--clearance wants a number",
+        ),
+        (
+            &["report", "a.net", "--limit=3", "--clearance"],
+            "--clearance wants a value",
+        ),
+        (
+            &[
+                "repair",
+                "a.net",
+                "--limit=3",
+                "--clearance=0",
+                "--clearance=0",
+            ],
+            "--clearance is given twice",
+        ),
         (&["report", "--limit=3"], "no net named"),
         (
             &["check", "a.net", "--limit=3"],
@@ -499,6 +557,7 @@ fn help_and_version() {
     for word in [
         "limit",
         "stage",
+        "clearance",
         "jumpers",
         "json",
         "output",

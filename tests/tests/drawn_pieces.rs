@@ -39,7 +39,7 @@ fn records(net: &Net) -> Vec<Vec<u8>> {
         .flat_map(|&(wire, t)| [wire as u8, t as u8, 0])
         .collect();
     let mut out = vec![0; 3072];
-    let answer = library::report(STAGE, 30, &net.file, &list, &mut out);
+    let answer = library::report(STAGE, 30, 0, &net.file, &list, &mut out);
     assert_eq!(answer.number, library::DONE);
     out.truncate(RECORD_BYTES * answer.count as usize);
     out.chunks(RECORD_BYTES).map(<[u8]>::to_vec).collect()

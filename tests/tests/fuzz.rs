@@ -41,6 +41,7 @@ fn corpus() {
             call,
             version,
             answer,
+            ..
         } = one(&std::fs::read(&path).unwrap());
         let name = path.file_name().unwrap().to_str().unwrap();
         if let Some(named) = by_name(name) {

@@ -151,6 +151,7 @@ fn calls_of_header() -> BTreeMap<String, Vec<String>> {
                     "uint8_t *" => "*mut u8",
                     "size_t" => "usize",
                     "uint32_t" => "u32",
+                    "uint16_t" => "u16",
                     other => panic!("{name}: {other}"),
                 };
                 format!("{}: {of}", &parameter[at..])

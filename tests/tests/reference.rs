@@ -1,5 +1,6 @@
 //! The independent implementations against each other: what the tests of the library rest on.
 
+use antenna_tests::generate::clearance::clearance;
 use antenna_tests::generate::{any_net, jumpers, small_case, stage};
 use antenna_tests::plain::def::def;
 use antenna_tests::plain::net::{read, write};
@@ -15,11 +16,11 @@ use antenna_tests::suite;
 fn every_set_and_table_agree() {
     let mut random = Random::new(1);
     for _ in 0..50_000 {
-        let (net, stage, limit) = small_case(&mut random, 11);
+        let (net, stage, limit, clearance) = small_case(&mut random, 11);
         assert_eq!(
-            every_set::least(&net, stage, limit),
-            table::least(&net, stage, limit),
-            "{net:?} stage {stage} limit {limit}"
+            every_set::least(&net, stage, limit, clearance),
+            table::least(&net, stage, limit, clearance),
+            "{net:?} stage {stage} limit {limit} clearance {clearance}"
         );
     }
 }
@@ -29,13 +30,13 @@ fn every_set_and_table_agree() {
 fn judge_and_pieces_agree() {
     let mut random = Random::new(2);
     for _ in 0..20_000 {
-        let (net, stage, limit) = small_case(&mut random, 11);
-        let judge = Judge::new(&net, stage);
+        let (net, stage, limit, clearance) = small_case(&mut random, 11);
+        let judge = Judge::new(&net, stage, clearance);
         let mask = random.next() as u32 & ((1 << judge.points().len()) - 1);
         assert_eq!(
             judge.legal(limit, mask),
-            legal(&net, stage, limit, &judge.set(mask)),
-            "{net:?} stage {stage} limit {limit} set {mask:b}"
+            legal(&net, stage, limit, clearance, &judge.set(mask)),
+            "{net:?} stage {stage} limit {limit} clearance {clearance} set {mask:b}"
         );
     }
 }
@@ -47,7 +48,8 @@ fn number_and_weight_of_pieces() {
     for _ in 0..5_000 {
         let net = any_net(&mut random);
         let stage = stage(&mut random, &net);
-        let set = jumpers(&mut random, &net, stage);
+        let clearance = clearance(&mut random, &net);
+        let set = jumpers(&mut random, &net, stage, clearance);
         let present: Vec<usize> = (1..net.nodes.len())
             .filter(|&i| net.present(stage, i))
             .collect();
@@ -103,6 +105,21 @@ fn plain_layers() {
     suite::layers::versions_of_the_writer(write);
     suite::layers::versions_of_the_reader(read);
     suite::layers::whole_files(read, write);
+}
+
+#[test]
+fn plain_clearance() {
+    suite::clearance::round_a_rectangle(report, repair);
+    suite::clearance::along_an_axis(report, repair);
+    suite::clearance::in_the_corners(report, repair);
+    suite::clearance::the_longest_wire(report, repair);
+    suite::clearance::every_two_layers(report, repair);
+    suite::clearance::gaps_close(report, repair);
+    suite::clearance::every_point(report, 2_000);
+    suite::clearance::every_set_by_report(report, repair, 2_000);
+    suite::clearance::larger_obstacles(report, repair, 2_000);
+    suite::clearance::report_changes_by_14_alone(report, 10_000);
+    suite::clearance::larger_clearances(repair, 5_000);
 }
 
 #[test]

@@ -1,5 +1,6 @@
 //! The calls from eight threads at a time answer as in one.
 
+use antenna_tests::generate::clearance::clearance;
 use antenna_tests::generate::def::{any_case, Case as Text};
 use antenna_tests::generate::{any_file, any_net, jumper_list, limit, stage};
 use antenna_tests::library::{def, read, repair, report, write};
@@ -19,6 +20,7 @@ struct Case {
     list: Vec<u8>,
     stage: u32,
     limit: u32,
+    clearance: u16,
     text: Text,
 }
 
@@ -28,7 +30,8 @@ fn cases(count: usize) -> Vec<Case> {
         .map(|_| {
             let mut net = any_net(&mut random);
             let stage = stage(&mut random, &net);
-            let list = jumper_list(&mut random, &net, stage);
+            let clearance = clearance(&mut random, &net);
+            let list = jumper_list(&mut random, &net, stage, clearance);
             let limit = limit(&mut random, &net);
             let mut file = net.file();
             if random.chance(1, 4) {
@@ -42,6 +45,7 @@ fn cases(count: usize) -> Vec<Case> {
                 list,
                 stage,
                 limit,
+                clearance,
                 text: any_case(&mut random),
             }
         })
@@ -52,12 +56,13 @@ fn cases(count: usize) -> Vec<Case> {
 fn call(case: &Case, which: usize) -> (Answer, Vec<u8>) {
     let mut out = vec![0x5a; 6000];
     let [nodes, wires, obstacles] = &case.sections;
-    let text = &case.text;
+    let (file, text) = (&case.file, &case.text);
+    let (stage, limit, clearance) = (case.stage, case.limit, case.clearance);
     let answer = match which % KINDS {
-        0 => read(&case.file),
+        0 => read(file),
         1 => write(case.version, nodes, wires, obstacles, &mut out),
-        2 => report(case.stage, case.limit, &case.file, &case.list, &mut out),
-        3 => repair(case.stage, case.limit, &case.file, &mut out),
+        2 => report(stage, limit, clearance, file, &case.list, &mut out),
+        3 => repair(stage, limit, clearance, file, &mut out),
         _ => def(
             &text.text,
             text.place,

@@ -34,6 +34,9 @@ pub fn find(case: &Case) -> Result<Finding, Refusal> {
         let harmful_count = count(harmful.len(), "harmful piece");
         let repair = match fewest {
             Some(fewest) => format!("antenna repair needs {}", count(fewest, "jumper")),
+            None if case.clearance > 0 => {
+                "no set of jumpers is legal at this limit and clearance".into()
+            }
             None => "no set of jumpers is legal at this limit".into(),
         };
         (

@@ -27,7 +27,7 @@ pub const COMMANDS: [Command; 7] = [
     Command {
         name: "report",
         help: help::REPORT,
-        options: &["--limit", "--stage", "--jumpers", "--json"],
+        options: &["--limit", "--stage", "--clearance", "--jumpers", "--json"],
         most: usize::MAX,
         wants_list: false,
         run: |options| run::each(options, report::find),
@@ -35,7 +35,7 @@ pub const COMMANDS: [Command; 7] = [
     Command {
         name: "repair",
         help: help::REPAIR,
-        options: &["--limit", "--stage", "--json"],
+        options: &["--limit", "--stage", "--clearance", "--json"],
         most: usize::MAX,
         wants_list: false,
         run: |options| run::each(options, repair::find),
@@ -43,7 +43,7 @@ pub const COMMANDS: [Command; 7] = [
     Command {
         name: "check",
         help: help::CHECK,
-        options: &["--limit", "--stage", "--jumpers", "--json"],
+        options: &["--limit", "--stage", "--clearance", "--jumpers", "--json"],
         most: usize::MAX,
         wants_list: true,
         run: |options| run::each(options, check::find),
@@ -51,7 +51,7 @@ pub const COMMANDS: [Command; 7] = [
     Command {
         name: "draw",
         help: help::DRAW,
-        options: &["--limit", "--stage", "--jumpers", "--output"],
+        options: &["--limit", "--stage", "--clearance", "--jumpers", "--output"],
         most: 1,
         wants_list: false,
         run: picture::draw,

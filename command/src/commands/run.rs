@@ -19,7 +19,7 @@ pub struct Finding {
 
 /// Prints what is found of each net; the status is the highest of theirs.
 pub fn each(options: &Options, find: fn(&Case) -> Result<Finding, Refusal>) -> Result<u8, Failure> {
-    let limit = options.limit()?;
+    let (stage, limit, clearance) = (options.stage(), options.limit()?, options.clearance());
     let lists = options.jumpers.iter().map(|name| List::load(name));
     let lists: Vec<Result<List, Refusal>> = lists.collect();
     let several = options.nets.len() > 1;
@@ -27,7 +27,7 @@ pub fn each(options: &Options, find: fn(&Case) -> Result<Finding, Refusal>) -> R
     for (k, name) in options.nets.iter().enumerate() {
         // one list is for all nets
         let list = lists.get(if lists.len() > 1 { k } else { 0 });
-        let found = Case::load(name, options.stage(), limit, list.cloned());
+        let found = Case::load(name, stage, limit, clearance, list.cloned());
         let (status, text) = match found.and_then(|case| find(&case)) {
             Ok(finding) => (finding.status, said(options.json, several, name, finding)),
             Err(refusal) => {

@@ -18,6 +18,7 @@ pub enum Item {
     Obstacle,
     LayeredObstacle,
     FaintObstacle,
+    Border,
     Factor,
     Layer(u8),
     AbsentLayer(u8),
@@ -37,6 +38,7 @@ impl Item {
             Item::Obstacle => "obstacle".into(),
             Item::LayeredObstacle => "obstacle, with its layer".into(),
             Item::FaintObstacle => "obstacle that does not count at this stage".into(),
+            Item::Border => "clearance round an obstacle".into(),
             Item::Factor => "factor over 1".into(),
             Item::Layer(layer) => format!("layer {layer}"),
             Item::AbsentLayer(layer) => format!("layer {layer}, not made yet"),
@@ -63,6 +65,11 @@ impl Item {
             Item::Obstacle => canvas.rect(sample, marks::obstacle(false)),
             Item::LayeredObstacle => layered_obstacle(canvas, sample, false),
             Item::FaintObstacle => layered_obstacle(canvas, sample, true),
+            Item::Border => {
+                canvas.rect(sample, marks::BORDER);
+                let inner = [x - 12.0, y - 3.0, x + 12.0, y + 3.0];
+                canvas.rect(inner, marks::obstacle(false));
+            }
             Item::Layer(layer) => canvas.line(from, to, &marks::wire(*layer, 5.0)),
             Item::AbsentLayer(layer) => canvas.line(from, to, &marks::absent_wire(*layer, 5.0)),
         }
@@ -108,6 +115,7 @@ pub fn items(picture: &Picture) -> Vec<Item> {
         (Item::Obstacle, !layered && obstacle(false)),
         (Item::LayeredObstacle, layered && obstacle(false)),
         (Item::FaintObstacle, obstacle(true)),
+        (Item::Border, picture.bordered),
         (Item::Factor, wires().any(|i| picture.has_factor(i))),
     ];
     let there = marks
@@ -120,16 +128,16 @@ pub fn items(picture: &Picture) -> Vec<Item> {
         .collect()
 }
 
-/// Items in rows from a height on, within the width; returns where they end.
-pub fn draw(canvas: &mut Canvas, top: f64, summary: &str, items: &[Item]) -> f64 {
+/// The lines of the summary, and items in rows within the width, from a height on; returns where they end.
+pub fn draw(canvas: &mut Canvas, top: f64, summary: &[String], items: &[Item]) -> f64 {
     let letters = canvas.letters.max(15.0);
     let row = (1.7 * letters).max(31.0);
     let (mut x, mut y) = (EDGE / 2.0, top);
     canvas.put(format_args!("<g font-size=\"{letters}\">"));
-    canvas.put(format_args!(
-        "<text x=\"{x}\" y=\"{y:.1}\">{summary}</text>"
-    ));
-    y += row;
+    for line in summary {
+        canvas.put(format_args!("<text x=\"{x}\" y=\"{y:.1}\">{line}</text>"));
+        y += row;
+    }
     for item in items {
         let text = item.text();
         let wide = 58.0 + 0.6 * letters * text.len() as f64;

@@ -52,6 +52,9 @@ pub fn band(wide: f64) -> String {
 const OBSTACLE: &str = "fill=\"#777\" fill-opacity=\"0.3\" stroke=\"#777\" stroke-width=\"0.7\"";
 const FAINT: &str = "fill=\"#777\" fill-opacity=\"0.08\" stroke=\"#777\" stroke-width=\"0.7\" stroke-dasharray=\"2 3\"";
 
+/// The border that a clearance keeps free.
+pub const BORDER: &str = "fill=\"#777\" fill-opacity=\"0.1\" stroke=\"#777\" stroke-width=\"0.7\" stroke-dasharray=\"7 4\"";
+
 pub fn obstacle(faint: bool) -> &'static str {
     if faint {
         FAINT

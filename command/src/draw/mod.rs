@@ -10,12 +10,13 @@ mod scale;
 mod stretches;
 
 use crate::case::Case;
-use crate::net::{layered, Net};
+use crate::net::{layered, Net, Obstacle};
 use crate::pieces::Piece;
 use crate::words::{count, Refusal};
 use canvas::Canvas;
+use obstacles::Drawn;
 use places::Place;
-use scale::{meets, square, Area, Scale, EDGE};
+use scale::{common, meets, square, Area, Scale, EDGE};
 use stretches::Stretch;
 
 /// An obstacle is this many times as wide as a wire, if it can be.
@@ -34,11 +35,14 @@ type Line = (usize, (f64, f64), (f64, f64));
 struct Picture<'a> {
     net: &'a Net,
     stage: u32,
+    clearance: u16,
     pieces: &'a [Piece],
     /// The lines of each piece.
     lines: Vec<Vec<Line>>,
     places: Vec<Place>,
     obstacles: Vec<Shape>,
+    /// Is the border that the clearance keeps free drawn round one?
+    bordered: bool,
     scale: Scale,
     canvas: Canvas,
 }
@@ -49,7 +53,7 @@ pub fn svg(case: &Case, pieces: &[Piece]) -> Result<String, Refusal> {
         stretches::stretches(net, stage, &jumpers, pieces).map_err(|how| case.contradicts(&how))?;
     let scale = Scale::new(net);
     let marks = marks::areas(net, stage, &scale);
-    let places = places::places(net, stage, &scale, &jumpers, &marks);
+    let places = places::places(case, &scale, &jumpers, &marks);
     let mut lines = vec![Vec::new(); pieces.len()];
     for (piece, line) in drawn(net, &scale, &stretches, &places) {
         lines[piece].push(line);
@@ -57,9 +61,11 @@ pub fn svg(case: &Case, pieces: &[Piece]) -> Result<String, Refusal> {
     let mut picture = Picture {
         net,
         stage,
+        clearance: case.clearance,
         pieces,
         lines,
         obstacles: Vec::new(),
+        bordered: false,
         canvas: Canvas::new(&scale, marks),
         places,
         scale,
@@ -73,12 +79,17 @@ pub fn svg(case: &Case, pieces: &[Piece]) -> Result<String, Refusal> {
     picture.draw_nodes();
     picture.draw_labels();
     let harmful = pieces.iter().filter(|piece| piece.harmful).count();
-    let summary = format!(
-        "stage {stage}, limit {}: {}, {harmful} harmful, {}",
-        case.limit,
+    let rules = format!("stage {stage}, limit {}", case.limit);
+    let found = format!(
+        "{}, {harmful} harmful, {}",
         count(pieces.len(), "piece"),
         count(jumpers.len(), "jumper")
     );
+    let summary = match case.clearance {
+        0 => vec![format!("{rules}: {found}")],
+        // two lines, so that the narrowest picture holds them
+        clearance => vec![format!("{rules}, clearance {clearance}:"), found],
+    };
     Ok(picture.finish(&summary))
 }
 
@@ -106,29 +117,55 @@ fn drawn(net: &Net, scale: &Scale, stretches: &[Stretch], places: &[Place]) -> V
 
 impl Picture<'_> {
     fn draw_obstacles(&mut self) {
+        let seen = SEEN * self.scale.size.wire / self.scale.step;
+        let drawn = obstacles::drawn(self.net, self.clearance, seen);
+        if self.clearance > 0 {
+            self.draw_borders(&drawn);
+        }
+        for (k, drawn) in drawn.iter().enumerate() {
+            if let Some(area) = self.in_view(&drawn.area) {
+                self.draw_obstacle(k, area);
+            }
+        }
+    }
+
+    /// What the picture has of a rectangle of the net.
+    fn in_view(&self, &[x1, y1, x2, y2]: &Area) -> Option<Area> {
         let page = [
             EDGE / 3.0,
             EDGE / 3.0,
             self.canvas.width - EDGE / 3.0,
             self.canvas.height - EDGE / 3.0,
         ];
-        let seen = SEEN * self.scale.size.wire / self.scale.step;
-        let areas = obstacles::areas(self.net, seen);
-        for (k, [x1, y1, x2, y2]) in areas.into_iter().enumerate() {
-            let area = scale::between(self.scale.point((x1, y1)), self.scale.point((x2, y2)));
-            if !meets(&area, &page) {
-                continue;
-            }
-            let [left, top] = [0, 1].map(|k| area[k].max(page[k]));
-            let [right, bottom] = [2, 3].map(|k| area[k].min(page[k]));
-            self.draw_obstacle(k, [left, top, right, bottom]);
+        let area = scale::between(self.scale.point((x1, y1)), self.scale.point((x2, y2)));
+        meets(&area, &page).then(|| common(&area, &page))
+    }
+
+    /// The borders that the clearance keeps free round obstacles that count: one shape, no darker where several lie on each other.
+    fn draw_borders(&mut self, drawn: &[Drawn]) {
+        let drawn = self.net.obstacles.iter().zip(drawn);
+        let counting = drawn.filter(|(obstacle, _)| !self.is_faint(obstacle));
+        let borders = counting.filter_map(|(_, drawn)| self.in_view(&drawn.border));
+        let outline = |[left, top, right, bottom]: Area| {
+            format!("M{left:.1} {top:.1}H{right:.1}V{bottom:.1}H{left:.1}Z")
+        };
+        let outlines: String = borders.map(outline).collect();
+        self.bordered = !outlines.is_empty();
+        if self.bordered {
+            let border = marks::BORDER;
+            self.canvas
+                .put(format_args!("<path d=\"{outlines}\" {border}/>"));
         }
+    }
+
+    fn is_faint(&self, obstacle: &Obstacle) -> bool {
+        obstacles::faint(self.net, self.stage, self.clearance, obstacle)
     }
 
     fn draw_obstacle(&mut self, k: usize, area: Area) {
         let obstacle = &self.net.obstacles[k];
         let (layer, layered) = (obstacle.layer, layered(self.net.version));
-        let faint = obstacles::faint(self.net, self.stage, obstacle);
+        let faint = self.is_faint(obstacle);
         if layered {
             let title = format!("<title>obstacle {k}: layer {layer}</title>");
             self.canvas.put(format_args!("<g>{title}"));
@@ -211,12 +248,13 @@ impl Picture<'_> {
         }
     }
 
-    fn finish(mut self, summary: &str) -> String {
+    fn finish(mut self, summary: &[String]) -> String {
         let items = legend::items(&self);
         let (width, top) = (self.canvas.width, self.canvas.height);
         let height = legend::draw(&mut self.canvas, top, summary, &items);
+        let title = summary.join(" ");
         format!(
-            "<svg xmlns=\"http://www.w3.org/2000/svg\" viewBox=\"0 0 {width:.0} {height:.0}\" width=\"{width:.0}\" height=\"{height:.0}\" font-family=\"sans-serif\" font-size=\"{}\">\n<title>{summary}</title>\n<rect width=\"100%\" height=\"100%\" fill=\"white\"/>\n{}</svg>\n",
+            "<svg xmlns=\"http://www.w3.org/2000/svg\" viewBox=\"0 0 {width:.0} {height:.0}\" width=\"{width:.0}\" height=\"{height:.0}\" font-family=\"sans-serif\" font-size=\"{}\">\n<title>{title}</title>\n<rect width=\"100%\" height=\"100%\" fill=\"white\"/>\n{}</svg>\n",
             self.scale.size.letters, self.canvas.out
         )
     }

@@ -1,33 +1,44 @@
-//! How large an obstacle is drawn: wide enough to be seen under a wire, but over no point of a wire that it does not hold. And which are drawn faint.
+//! How large an obstacle and the border that a clearance keeps free round it are drawn: wide enough to be seen under a wire, but over no point of a wire that they do not hold. And which are drawn faint.
 
+use super::scale::{common, Area};
 use crate::net::{layered, Net, Obstacle};
-
-/// A rectangle of the net: least x, least y, greatest x, greatest y.
-type Area = [f64; 4];
 
 /// Less than half a step, so that no other point is reached.
 const LEAST: f64 = 0.4;
 
-/// The rectangles to draw, in steps; `seen` is the least width that can be seen.
-pub fn areas(net: &Net, seen: f64) -> Vec<Area> {
+/// What is drawn of an obstacle, in steps.
+pub struct Drawn {
+    pub area: Area,
+    /// Of what it bars; the area lies in it, and is the same at clearance 0.
+    pub border: Area,
+}
+
+/// The rectangles to draw; `seen` is the least width that can be seen.
+pub fn drawn(net: &Net, clearance: u16, seen: f64) -> Vec<Drawn> {
     let wires: Vec<Area> = (1..net.nodes.len())
         .filter(|&i| net.length(i) > 1)
         .map(|i| inside(net, i))
         .collect();
-    let obstacles = net.obstacles.iter();
-    obstacles
-        .map(|obstacle| area(&wires, rectangle(obstacle), seen))
-        .collect()
+    let drawn = |obstacle: &Obstacle| {
+        let [area, border] =
+            [0, clearance].map(|clearance| area(&wires, rectangle(obstacle, clearance), seen));
+        Drawn {
+            area: common(&area, &border),
+            border,
+        }
+    };
+    net.obstacles.iter().map(drawn).collect()
 }
 
-fn rectangle(obstacle: &Obstacle) -> Area {
-    obstacle.corners.map(f64::from)
+fn rectangle(obstacle: &Obstacle, clearance: u16) -> Area {
+    obstacle.barred(clearance).map(f64::from)
 }
 
-/// An obstacle is faint if it counts for none of the stage's wires whose points it holds; if it holds none, if it counts for no wire of the stage.
-pub fn faint(net: &Net, stage: u32, obstacle: &Obstacle) -> bool {
+/// An obstacle is faint if it counts for none of the stage's wires of which points lie in what it bars at the clearance; if none lie there, if it counts for no wire of the stage.
+pub fn faint(net: &Net, stage: u32, clearance: u16, obstacle: &Obstacle) -> bool {
+    let area = rectangle(obstacle, clearance);
     let present = || (1..net.nodes.len()).filter(|&i| net.present(stage, i));
-    let held = || present().filter(|&i| holds(net, obstacle, i));
+    let held = || present().filter(|&i| holds(net, &area, i));
     let counts = |i| net.counts(obstacle, i);
     let counted = match held().next() {
         Some(_) => held().any(counts),
@@ -36,12 +47,12 @@ pub fn faint(net: &Net, stage: u32, obstacle: &Obstacle) -> bool {
     layered(net.version) && !counted
 }
 
-/// Does the obstacle hold a point inside the wire?
-fn holds(net: &Net, obstacle: &Obstacle, wire: usize) -> bool {
+/// Does the area hold a point inside the wire?
+fn holds(net: &Net, area: &Area, wire: usize) -> bool {
     if net.length(wire) < 2 {
         return false;
     }
-    let (area, points) = (rectangle(obstacle), inside(net, wire));
+    let points = inside(net, wire);
     let on = |axis: usize| points[axis] <= area[axis + 2] && area[axis] <= points[axis + 2];
     on(0) && on(1)
 }

@@ -2,6 +2,7 @@
 
 use super::marks;
 use super::scale::{between, meets, square, Area, Scale};
+use crate::case::Case;
 use crate::library::{JUMPER_BYTES, REPAIR_MOST};
 use crate::net::{Net, Obstacle};
 
@@ -18,12 +19,12 @@ pub const MOST: usize = REPAIR_MOST / JUMPER_BYTES;
 
 /// A place for each jumper, clear of the marks of nodes.
 pub fn places(
-    net: &Net,
-    stage: u32,
+    case: &Case,
     scale: &Scale,
     jumpers: &[(usize, usize)],
     marks: &[Area],
 ) -> Vec<Place> {
+    let net = &case.net;
     let mut taken = marks.to_vec();
     let mut places = Vec::new();
     for &(wire, position) in jumpers {
@@ -35,9 +36,9 @@ pub fn places(
             } else {
                 net.parent(wire)
             };
-            let reach = marks::reach(net, stage, near, scale.size.gate);
+            let reach = marks::reach(net, case.stage, near, scale.size.gate);
             let clear = reach + scale.size.jumper + 1.0;
-            choices.extend(others(net, scale, jumpers, (wire, position), clear));
+            choices.extend(others(case, scale, jumpers, (wire, position), clear));
         }
         let area = |at| square(at, 0.8 * scale.size.jumper);
         let free = |at| !taken.iter().any(|other| meets(&area(at), other));
@@ -62,14 +63,15 @@ pub fn places(
 
 /// Where the wire may be drawn cut, and the cross, if the jumper's point is taken: the best first, each so far from the end of the wire or from the wire.
 fn others(
-    net: &Net,
+    case: &Case,
     scale: &Scale,
     jumpers: &[(usize, usize)],
     (wire, position): (usize, usize),
     clear: f64,
 ) -> Vec<((f64, f64), (f64, f64))> {
+    let net = &case.net;
     let point = scale.point(net.at(wire, position as f64));
-    let along = along(net, scale, jumpers, (wire, position), clear);
+    let along = along(case, scale, jumpers, (wire, position), clear);
     let along = along.into_iter().map(|at| (at, at));
     along
         .chain(beside(net, wire, point, clear).map(|at| (point, at)))
@@ -78,12 +80,13 @@ fn others(
 
 /// A place further along the wire, if the wire is long and neither an obstacle that bars it nor another jumper lies between.
 fn along(
-    net: &Net,
+    case: &Case,
     scale: &Scale,
     jumpers: &[(usize, usize)],
     (wire, position): (usize, usize),
     clear: f64,
 ) -> Option<(f64, f64)> {
+    let net = &case.net;
     let (length, t) = (net.length(wire) as f64, position as f64);
     let steps = clear / scale.step;
     if 3.0 * steps > length {
@@ -97,7 +100,7 @@ fn along(
     let beyond = moved + (moved - t).signum() * scale.size.jumper / scale.step;
     let way = between(net.at(wire, t), net.at(wire, beyond));
     let bars = |obstacle: &Obstacle| {
-        let o = obstacle.corners.map(f64::from);
+        let o = obstacle.barred(case.clearance).map(f64::from);
         let held = o[0] <= way[2] && way[0] <= o[2] && o[1] <= way[3] && way[1] <= o[3];
         held && net.counts(obstacle, wire)
     };

@@ -38,11 +38,21 @@ const FEW_NODES: usize = 40;
 
 pub const EDGE: f64 = 60.0;
 
-/// A rectangle: left, top, right, bottom.
+/// A rectangle: left, top, right, bottom in the picture; least x and y, greatest x and y in the net.
 pub type Area = [f64; 4];
 
 pub fn meets(a: &Area, b: &Area) -> bool {
     a[0] < b[2] && b[0] < a[2] && a[1] < b[3] && b[1] < a[3]
+}
+
+/// What two rectangles that meet have in common.
+pub fn common(a: &Area, b: &Area) -> Area {
+    [
+        a[0].max(b[0]),
+        a[1].max(b[1]),
+        a[2].min(b[2]),
+        a[3].min(b[3]),
+    ]
 }
 
 pub fn square((x, y): (f64, f64), half: f64) -> Area {

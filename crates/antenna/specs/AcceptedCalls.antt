@@ -12,7 +12,7 @@ use Rattle.net.specs.Refusal.{Verdict, answer, met, none, or_else, lent_refusal,
 use Rattle.net.specs.Layout.{record_bytes}
 use Rattle.net.specs.Call.{net_at, call_refusal}
 use Rattle.net.specs.Calls.{call_right}
-use Rattle.net.specs.Accepted.{NetRight, formed}
+use Rattle.net.specs.Accepted.{NetRight, formed_under}
 use Rattle.net.specs.First.{unmet-number, unmet_l, unmet_r}
 use Rattle.pieces.specs.Legal.{size}
 use Rattle.pieces.specs.Inside.{Inside}
@@ -23,8 +23,8 @@ use Rattle.reports.specs.Promise.{piece_count, report_refusal, report_answer}
 use Rattle.lists.specs.EntriesChecked.{list_none}
 
 -- a call that meets none of 1 to 11 and 20: the net is formed
-pub call_formed : (stage : ℕ) (file : List ℕ) → met (call_refusal stage file) ≡ false → Formed (net_at file stage)
-call_formed stage file u = formed (version_of file) (nodes_of file) (wires_of file) (obstacles_of file) (call_right stage file u) stage
+pub call_formed : (stage clearance : ℕ) (file : List ℕ) → met (call_refusal stage file) ≡ false → Formed (net_at file stage clearance)
+call_formed stage clearance file u = formed_under (version_of file) (nodes_of file) (wires_of file) (obstacles_of file) (call_right stage file u) clearance stage
 
 -- a refusal that is not met has number 0
 unmet-zero : (r : Verdict) → met r ≡ false → r.number ≡ 0
@@ -35,44 +35,44 @@ unmet-zero r h = eqb-true r.number 0 (turned (eqb r.number 0) h)
     turned false e = absurd (no_both refl e)
 
 -- report with its list
-module _ (stage : ℕ) (file list : List ℕ) (lent : ℕ) (r : Answer) (e : r ≡ report_answer stage file list lent) (zero : r.number ≡ 0) where
-  pub report_unmet : met (report_refusal stage file list lent) ≡ false
+module _ (stage clearance : ℕ) (file list : List ℕ) (lent : ℕ) (r : Answer) (e : r ≡ report_answer stage clearance file list lent) (zero : r.number ≡ 0) where
+  pub report_unmet : met (report_refusal stage clearance file list lent) ≡ false
   unfolding report_answer answer
-  report_unmet = unmet-number (report_refusal stage file list lent) (sym (ap (λ (a : Answer). a.number) e) ∙ zero)
+  report_unmet = unmet-number (report_refusal stage clearance file list lent) (sym (ap (λ (a : Answer). a.number) e) ∙ zero)
 
   pub report_call : met (call_refusal stage file) ≡ false
   unfolding report_refusal
   report_call =
       unmet_l (call_refusal stage file)
-      (or_else (list_refusal (net_at file stage) list) (lent_refusal (record_bytes * piece_count (net_at file stage) list) lent)) report_unmet
+      (or_else (list_refusal (net_at file stage clearance) list) (lent_refusal (record_bytes * piece_count (net_at file stage clearance) list) lent)) report_unmet
 
-  pub report_list_lent : met (or_else (list_refusal (net_at file stage) list) (lent_refusal (record_bytes * piece_count (net_at file stage) list) lent)) ≡ false
+  pub report_list_lent : met (or_else (list_refusal (net_at file stage clearance) list) (lent_refusal (record_bytes * piece_count (net_at file stage clearance) list) lent)) ≡ false
   unfolding report_refusal
   report_list_lent =
       unmet_r (call_refusal stage file)
-      (or_else (list_refusal (net_at file stage) list) (lent_refusal (record_bytes * piece_count (net_at file stage) list) lent)) report_unmet
+      (or_else (list_refusal (net_at file stage clearance) list) (lent_refusal (record_bytes * piece_count (net_at file stage clearance) list) lent)) report_unmet
 
-  report_list : list_refusal (net_at file stage) list ≡ none
+  report_list : list_refusal (net_at file stage clearance) list ≡ none
   report_list =
-      list_none (net_at file stage) list
-      (unmet-zero (list_refusal (net_at file stage) list) (unmet_l (list_refusal (net_at file stage) list) (lent_refusal (record_bytes * piece_count (net_at file stage) list) lent) report_list_lent))
+      list_none (net_at file stage clearance) list
+      (unmet-zero (list_refusal (net_at file stage clearance) list) (unmet_l (list_refusal (net_at file stage clearance) list) (lent_refusal (record_bytes * piece_count (net_at file stage clearance) list) lent) report_list_lent))
 
   pub report_right : NetRight (version_of file) (nodes_of file) (wires_of file) (obstacles_of file)
   report_right = call_right stage file report_call
 
-  pub report_formed : Formed (net_at file stage)
-  report_formed = call_formed stage file report_call
+  pub report_formed : Formed (net_at file stage clearance)
+  report_formed = call_formed stage clearance file report_call
 
-  pub report_free : AllFree (net_at file stage) (set_of list)
-  report_free = list_set_free (net_at file stage) list report_list
+  pub report_free : AllFree (net_at file stage clearance) (set_of list)
+  report_free = list_set_free (net_at file stage clearance) list report_list
 
-  pub report_inside : Inside (net_at file stage) (set_of list)
-  report_inside = list_set_inside (net_at file stage) list report_list
+  pub report_inside : Inside (net_at file stage clearance) (set_of list)
+  report_inside = list_set_inside (net_at file stage clearance) list report_list
 
   -- its entries are distinct points
-  pub report_jumpers : size (net_at file stage) (set_of list) ≡ entry_count list
-  report_jumpers = list_set_size (net_at file stage) list report_list report_formed
+  pub report_jumpers : size (net_at file stage clearance) (set_of list) ≡ entry_count list
+  report_jumpers = list_set_size (net_at file stage clearance) list report_list report_formed
 
-  pub report_count : r.count ≡ piece_count (net_at file stage) list
+  pub report_count : r.count ≡ piece_count (net_at file stage clearance) list
   unfolding report_answer answer
   report_count = ap (λ (a : Answer). a.count) e ∙ rw report_unmet

@@ -9,7 +9,8 @@ use native.Mathlib.Omega.{arith}
 use Rattle.laws.specs.Sums.{by}
 use Rattle.net.specs.declared.Answer.{Answer}
 use Rattle.net.specs.Layout.{entry_bytes, most_nodes}
-use Rattle.net.specs.Stage.{Stage, stage_of}
+use Rattle.net.specs.Stage.{Stage}
+use Rattle.net.specs.NoClearance.{stage_of}
 use Rattle.net.specs.Formed.{Formed}
 use Rattle.net.specs.Refusal.{Verdict, answer, none, refusal, met}
 use Rattle.net.specs.Call.{net_at, call_refusal}
@@ -97,7 +98,7 @@ module _ {s : Stage} {limit : ℕ} {out after : List ℕ} {r : Answer} where
   one_answer (done l m w le e k) (too_short l' m' w' lt e' k') = let q = same_count w w' in absurd (native.Mathlib.Nat.lt_irrefl 0 (omega arith))
   one_answer (done l m w le e k) (done l' m' w' le' e' k') = e ∙ (ap (answer none) (same_count w w') ∙ sym e')
 
-module _ {stage limit : ℕ} {file out after : List ℕ} {r : Answer} (p : Repaired stage limit file out after r) (zero : r.number ≡ 0) where
+module _ {stage limit clearance : ℕ} {file out after : List ℕ} {r : Answer} (p : Repaired stage limit clearance file out after r) (zero : r.number ≡ 0) where
   -- done: the call met none of 1 to 11 and 20
   pub repair_unmet : met (call_refusal stage file) ≡ false
   repair_unmet =
@@ -108,13 +109,13 @@ module _ {stage limit : ℕ} {file out after : List ℕ} {r : Answer} (p : Repai
       number_of : (q : Verdict) → r ≡ answer q 0 → r.number ≡ q.number
       number_of q e = unfold answer in ap (λ (a : Answer). a.number) e
 
-  done_list : (entry_bytes * r.count ≤ length out) × Smallest (net_at file stage) limit (take (entry_bytes * r.count) after) r.count
+  done_list : (entry_bytes * r.count ≤ length out) × Smallest (net_at file stage clearance) limit (take (entry_bytes * r.count) after) r.count
   done_list = at (p.judged repair_unmet)
     where
       apart : (number place : ℕ) → r ≡ answer (refusal (suc number) place) 0 → ⊥
       apart number place e = let a : r.number ≡ suc number = unfold answer in ap (λ (a : Answer). a.number) e in omega arith
 
-      at : Judged (net_at file stage) limit out after r → (entry_bytes * r.count ≤ length out) × Smallest (net_at file stage) limit (take (entry_bytes * r.count) after) r.count
+      at : Judged (net_at file stage clearance) limit out after r → (entry_bytes * r.count ≤ length out) × Smallest (net_at file stage clearance) limit (take (entry_bytes * r.count) after) r.count
       at (no_legal_set f e k) = absurd (apart 14 0 e)
       at (too_short list n m lt e k) = absurd (apart 15 (entry_bytes * n) e)
       at (done list n m le e k) =
@@ -125,15 +126,15 @@ module _ {stage limit : ℕ} {file out after : List ℕ} {r : Answer} (p : Repai
   pub list_room : entry_bytes * r.count ≤ length out
   list_room = done_list.0
 
-  pub list_smallest : Smallest (net_at file stage) limit (take (entry_bytes * r.count) after) r.count
+  pub list_smallest : Smallest (net_at file stage clearance) limit (take (entry_bytes * r.count) after) r.count
   list_smallest = done_list.1
 
   -- what the theorems on pieces assume
-  pub repair_formed : Formed (net_at file stage)
-  repair_formed = call_formed stage file repair_unmet
+  pub repair_formed : Formed (net_at file stage clearance)
+  repair_formed = call_formed stage clearance file repair_unmet
 
-  pub repair_inside : Inside (net_at file stage) (listed (take (entry_bytes * r.count) after) r.count)
-  repair_inside = free-inside (net_at file stage) (listed (take (entry_bytes * r.count) after) r.count) list_smallest.legal.free
+  pub repair_inside : Inside (net_at file stage clearance) (listed (take (entry_bytes * r.count) after) r.count)
+  repair_inside = free-inside (net_at file stage clearance) (listed (take (entry_bytes * r.count) after) r.count) list_smallest.legal.free
 
 -- bytes for two jumpers on each wire of the largest net
 abbrev pub enough_bytes : ℕ
@@ -144,11 +145,11 @@ enough_is = refl
 
 -- with that many bytes lent, an accepted net is never answered with 16
 pub enough :
-    {stage limit : ℕ} {file out after : List ℕ} {r : Answer} →
-    Repaired stage limit file out after r → met (call_refusal stage file) ≡ false → enough_bytes ≤ length out → r.number ≡ 16 → ⊥
+    {stage limit clearance : ℕ} {file out after : List ℕ} {r : Answer} →
+    Repaired stage limit clearance file out after r → met (call_refusal stage file) ≡ false → enough_bytes ≤ length out → r.number ≡ 16 → ⊥
 unfolding stage_of
-enough {stage} {limit} {file} {out} {after} {r} p u room e =
+enough {stage} {limit} {clearance} {file} {out} {after} {r} p u room e =
     let w = (sixteen (p.judged u)).0 e in
     let right = call_right stage file u in
-    let few = smallest-few (net_at file stage) (call_formed stage file u) limit w.0 w.1 w.2 in
+    let few = smallest-few (net_at file stage clearance) (call_formed stage clearance file u) limit w.0 w.1 w.2 in
     native.Mathlib.Nat.lt_irrefl 0 (omega (arith, few, w.3, room, right.sized.few_nodes))

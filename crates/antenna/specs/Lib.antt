@@ -3,3 +3,4 @@ pub mod Room
 pub mod Excluded
 pub mod AcceptedCalls
 pub mod Reported
+pub mod Clearances

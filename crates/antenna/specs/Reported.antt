@@ -16,7 +16,8 @@ use Rattle.laws.specs.Indexed.{mem_at, at_mem, sorted_at, total-at, record_at_le
 use Rattle.net.specs.declared.Answer.{Answer}
 use Rattle.net.specs.Layout.{record_bytes}
 use Rattle.net.specs.Limits.{length_bound}
-use Rattle.net.specs.Stage.{Stage, stage_of}
+use Rattle.net.specs.Stage.{Stage}
+use Rattle.net.specs.NoClearance.{stage_of}
 use Rattle.net.specs.Formed.{Formed}
 use Rattle.net.specs.File.{version_of}
 use Rattle.net.specs.Refusal.{stage_refusal, read_refusal, section_of, nodes_of, wires_of, obstacles_of}
@@ -180,21 +181,21 @@ module _ (s : Stage) (limit : ℕ) (J : Points) (formed : Formed s) (inside : In
       }
 
 -- report answers done
-module _ (stage limit : ℕ) (file list out after : List ℕ) (r : Answer) (bytes : Bytes file) (e : r ≡ report_answer stage file list (length out))
-    (b : after ≡ report_buffer stage limit file list out) (zero : r.number ≡ 0) where
+module _ (stage limit clearance : ℕ) (file list out after : List ℕ) (r : Answer) (bytes : Bytes file) (e : r ≡ report_answer stage clearance file list (length out))
+    (b : after ≡ report_buffer stage limit clearance file list out) (zero : r.number ≡ 0) where
   bytes_of : (k : ℕ) → Bytes (section_of file k)
   bytes_of k =
-      let f = file_right_of file (unmet_r (stage_refusal stage) (read_refusal file) (report_call stage file list (length out) r e zero)) in
+      let f = file_right_of file (unmet_r (stage_refusal stage) (read_refusal file) (report_call stage clearance file list (length out) r e zero)) in
       rw (← section_stretch file k (head-unmet file f.head)) (bytes_section file f.head bytes k)
 
-  pub reported : Reported (net_at file stage) limit (set_of list) after r.count
-  unfolding report_buffer pieces_buffer stage_of
+  pub reported : Reported (net_at file stage clearance) limit (set_of list) after r.count
+  unfolding report_buffer pieces_buffer stage_of weight_of
   reported =
-      let right = report_right stage file list (length out) r e zero in
-      let u = report_unmet stage file list (length out) r e zero in
-      let rest = drop (record_bytes * piece_count (net_at file stage) list) out in
-      subst (λ (l : List ℕ). Reported (net_at file stage) limit (set_of list) l r.count) (sym (b ∙ rw u))
-      (subst (λ (n : ℕ). Reported (net_at file stage) limit (set_of list) (report_of (net_at file stage) limit (set_of list) ++ rest) n) (sym (report_count stage file list (length out) r e zero))
-      (records (net_at file stage) limit (set_of list) (report_formed stage file list (length out) r e zero) (report_inside stage file list (length out) r e zero)
+      let right = report_right stage clearance file list (length out) r e zero in
+      let u = report_unmet stage clearance file list (length out) r e zero in
+      let rest = drop (record_bytes * piece_count (net_at file stage clearance) list) out in
+      subst (λ (l : List ℕ). Reported (net_at file stage clearance) limit (set_of list) l r.count) (sym (b ∙ rw u))
+      (subst (λ (n : ℕ). Reported (net_at file stage clearance) limit (set_of list) (report_of (net_at file stage clearance) limit (set_of list) ++ rest) n) (sym (report_count stage clearance file list (length out) r e zero))
+      (records (net_at file stage clearance) limit (set_of list) (report_formed stage clearance file list (length out) r e zero) (report_inside stage clearance file list (length out) r e zero)
       (λ i p. length-small (nodes_of file) (wires_of file) i (bytes_of 0) (checked_of right i (present-positive (version_of file) (nodes_of file) (wires_of file) (obstacles_of file) stage i p) (present-inside (version_of file) (nodes_of file) (wires_of file) (obstacles_of file) stage i p)))
       (λ P. weight-fits (version_of file) (nodes_of file) (wires_of file) (obstacles_of file) right (bytes_of 0) (bytes_of 1) stage P) rest))

@@ -13,11 +13,11 @@ use Rattle.reports.specs.Promise.{piece_count, report_answer}
 use Rattle.antenna.specs.AcceptedCalls.{report_list_lent, report_count}
 
 pub record_room :
-    (stage : ℕ) (file list : List ℕ) (lent : ℕ) (r : Answer) → r ≡ report_answer stage file list lent → r.number ≡ 0 → record_bytes * r.count ≤ lent
-record_room stage file list lent r e zero =
-    let need = record_bytes * piece_count (net_at file stage) list in
-    let l = unmet_r (list_refusal (net_at file stage) list) (lent_refusal need lent) (report_list_lent stage file list lent r e zero) in
-    let c = report_count stage file list lent r e zero in
+    (stage clearance : ℕ) (file list : List ℕ) (lent : ℕ) (r : Answer) → r ≡ report_answer stage clearance file list lent → r.number ≡ 0 → record_bytes * r.count ≤ lent
+record_room stage clearance file list lent r e zero =
+    let need = record_bytes * piece_count (net_at file stage clearance) list in
+    let l = unmet_r (list_refusal (net_at file stage clearance) list) (lent_refusal need lent) (report_list_lent stage clearance file list lent r e zero) in
+    let c = report_count stage clearance file list lent r e zero in
     by (ltb lent need)
     (λ y. absurd (no_both (rw y) l))
     (λ z. let w = ltb-false lent need z in omega arith)

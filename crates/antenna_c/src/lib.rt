@@ -31,26 +31,33 @@ pub extern "C" fn antenna_write(
     antenna::antenna_write(version, nodes, wires, obstacles, out).into()
 }
 
-// Reports every piece of a net at a stage with jumpers in place: 1, 2 to 11 and 20, 12 to 14, 16, or the number of records.
+// Reports every piece of a net at a stage with jumpers in place, which 14 judges under a clearance: 1, 2 to 11 and 20, 12 to 14, 16, or the number of records.
 #[unsafe(no_mangle)]
 pub extern "C" fn antenna_report(
     stage: u32,
     limit: u32,
+    clearance: u16,
     file: &[u8],
     jumpers: &[u8],
     out: &mut [u8],
 ) -> Answer
-    ensures { (result ≡ report_answer stage file.now jumpers.now (length out.old)) × (out.new ≡ report_buffer stage limit file.now jumpers.now out.old) }
+    ensures { (result ≡ report_answer stage clearance file.now jumpers.now (length out.old)) × (out.new ≡ report_buffer stage limit clearance file.now jumpers.now out.old) }
 {
-    antenna::antenna_report(stage, limit, file, jumpers, out).into()
+    antenna::antenna_report(stage, limit, clearance, file, jumpers, out).into()
 }
 
-// Finds a smallest legal jumper set of a net at a stage under a limit: 1, 2 to 11 and 20, 15, 16, or the number of jumpers written.
+// Finds a smallest legal jumper set of a net at a stage under a limit and a clearance: 1, 2 to 11 and 20, 15, 16, or the number of jumpers written.
 #[unsafe(no_mangle)]
-pub extern "C" fn antenna_repair(stage: u32, limit: u32, file: &[u8], out: &mut [u8]) -> Answer
-    ensures { Repaired stage limit file.now out.old out.new result }
+pub extern "C" fn antenna_repair(
+    stage: u32,
+    limit: u32,
+    clearance: u16,
+    file: &[u8],
+    out: &mut [u8],
+) -> Answer
+    ensures { Repaired stage limit clearance file.now out.old out.new result }
 {
-    antenna::antenna_repair(stage, limit, file, out).into()
+    antenna::antenna_repair(stage, limit, clearance, file, out).into()
 }
 
 // Reads one net's routing from DEF text, from a place on, and writes its net file: 17 or 18, 19, 4 to 11, 16, or the place after `;` and the number of bytes written.

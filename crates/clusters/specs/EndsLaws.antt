@@ -7,7 +7,8 @@ use borrow.Author.Tests.{ltb-true, ltb-false, lt-ltb}
 use Rattle.laws.specs.Sums.{by, no_both}
 use Rattle.net.specs.Layout.{newest}
 use Rattle.net.specs.Net.{node_count, wire_length, barred}
-use Rattle.net.specs.Stage.{Stage, stage_of}
+use Rattle.net.specs.Stage.{Stage}
+use Rattle.net.specs.NoClearance.{stage_of}
 use Rattle.points.specs.Cuttable.{Checked, Lowest, Highest}
 use Rattle.cuts.specs.Fits.{free_at}
 use Rattle.cuts.specs.BridgeFits.{free_of, of_free}
@@ -54,7 +55,7 @@ module _ (ns ws os : List ℕ) (k : ℕ) where
     highest-absent m = record { free = λ h. absurd (lt_irrefl 0 h); most = λ t f. absurd (not-absent m t f) }
 
     module _ (m : is_present ws k i ≡ true) where
-      pub lowest-present : (r : Option ℕ) → Lowest (barred newest ns ws os i) 1 (wire_length ns ws i) r → LowestFree (stage_of newest ns ws os k) i (unwrap_or r 0)
+      pub lowest-present : (r : Option ℕ) → Lowest (barred newest 0 ns ws os i) 1 (wire_length ns ws i) r → LowestFree (stage_of newest ns ws os k) i (unwrap_or r 0)
       unfolding stage_of
       lowest-present None l =
           record {
@@ -79,7 +80,7 @@ module _ (ns ws os : List ℕ) (k : ℕ) where
                 (λ n. ltb-false t r n);
           }
 
-      pub highest-present : (r : Option ℕ) → 0 < wire_length ns ws i → Highest (barred newest ns ws os i) (wire_length ns ws i - 1) r → HighestFree (stage_of newest ns ws os k) i (unwrap_or r 0)
+      pub highest-present : (r : Option ℕ) → 0 < wire_length ns ws i → Highest (barred newest 0 ns ws os i) (wire_length ns ws i - 1) r → HighestFree (stage_of newest ns ws os k) i (unwrap_or r 0)
       unfolding stage_of
       highest-present None pos l =
           record {

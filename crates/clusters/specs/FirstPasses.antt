@@ -5,7 +5,8 @@ use Rattle.laws.specs.Sum.{χ, sum, any}
 use Rattle.net.specs.Layout.{newest, wire_bytes, most_nodes}
 use Rattle.net.specs.Limits.{length_bound, weight_bound}
 use Rattle.net.specs.Net.{node_count, node_x, node_y, node_flags, is_gate, is_source, wire_parent, wire_layer, wire_factor, wire_length}
-use Rattle.net.specs.Stage.{Stage, stage_of}
+use Rattle.net.specs.Stage.{Stage}
+use Rattle.net.specs.NoClearance.{stage_of}
 use Rattle.cuts.specs.Fits.{Fits, free_at}
 use Rattle.cuts.specs.Bounds.{all_weight}
 use Rattle.clusters.specs.declared.work.Clusters.{Clusters}

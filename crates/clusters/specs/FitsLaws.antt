@@ -12,7 +12,7 @@ use Rattle.laws.specs.Sums.{by, and_intro, and_no_right, χ-and, sum_ap, sum-+, 
 use Rattle.net.specs.Layout.{newest, node_bytes}
 use Rattle.net.specs.Limits.{length_bound, wire_weight_bound, weight_bound}
 use Rattle.net.specs.Net.{node_count, node_flags, is_gate, wire_parent, wire_factor, wire_length}
-use Rattle.net.specs.Stage.{stage_of}
+use Rattle.net.specs.NoClearance.{stage_of}
 use Rattle.net.specs.Formed.{Formed}
 use Rattle.net.specs.Accepted.{NetRight, present-inside, present-positive}
 use Rattle.cuts.specs.Fits.{Fits, fixed_part, live_gate, sourced}

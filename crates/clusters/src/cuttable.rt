@@ -4,7 +4,7 @@
 ghost use Rattle.std.specs.Prelude.{◌<◌, ◌≤◌, length};
 ghost use Rattle.net.specs.Layout.{newest};
 ghost use Rattle.net.specs.Net.{node_count};
-ghost use Rattle.net.specs.Stage.{stage_of};
+ghost use Rattle.net.specs.NoClearance.{stage_of};
 ghost use Rattle.clusters.specs.Positions.{lo_of, hi_of, los, his};
 ghost use Rattle.clusters.specs.FirstPasses.{Wired, LowestFree, HighestFree, Ends};
 

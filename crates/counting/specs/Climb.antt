@@ -15,7 +15,7 @@ use Rattle.counting.specs.Close.{any_weight, ungated_ok, ungated_weight}
 
 -- position t lies inside wire i, and no obstacle bars it
 unfoldable pub open_at : List ℕ → List ℕ → List ℕ → ℕ → ℕ → Bool
-open_at ns ws os i t = leb 1 t && (ltb t (wire_length ns ws i) && not (barred newest ns ws os i t))
+open_at ns ws os i t = leb 1 t && (ltb t (wire_length ns ws i) && not (barred newest 0 ns ws os i t))
 
 -- wire i has an open position; lo and hi are the lowest and the highest
 pub record Branch (ns ws os : List ℕ) (i lo hi : ℕ) : Type 0 where

@@ -23,19 +23,19 @@ use Rattle.counting.specs.Climb.{open_at, Branch, LastWithin, Climbs}
 module _ (ns ws os : List ℕ) (i : ℕ) where
   pub open_low : (t : ℕ) → open_at ns ws os i t ≡ true → 1 ≤ t
   unfolding open_at
-  open_low t e = leb-true 1 t (and_left (leb 1 t) (ltb t (wire_length ns ws i) && not (barred newest ns ws os i t)) e)
+  open_low t e = leb-true 1 t (and_left (leb 1 t) (ltb t (wire_length ns ws i) && not (barred newest 0 ns ws os i t)) e)
 
-  inner : (t : ℕ) → open_at ns ws os i t ≡ true → (ltb t (wire_length ns ws i) && not (barred newest ns ws os i t)) ≡ true
+  inner : (t : ℕ) → open_at ns ws os i t ≡ true → (ltb t (wire_length ns ws i) && not (barred newest 0 ns ws os i t)) ≡ true
   unfolding open_at
-  inner t e = and_right (leb 1 t) (ltb t (wire_length ns ws i) && not (barred newest ns ws os i t)) e
+  inner t e = and_right (leb 1 t) (ltb t (wire_length ns ws i) && not (barred newest 0 ns ws os i t)) e
 
   pub open_high : (t : ℕ) → open_at ns ws os i t ≡ true → t < wire_length ns ws i
-  open_high t e = ltb-true t (wire_length ns ws i) (and_left (ltb t (wire_length ns ws i)) (not (barred newest ns ws os i t)) (inner t e))
+  open_high t e = ltb-true t (wire_length ns ws i) (and_left (ltb t (wire_length ns ws i)) (not (barred newest 0 ns ws os i t)) (inner t e))
 
-  pub open_clear : (t : ℕ) → open_at ns ws os i t ≡ true → barred newest ns ws os i t ≡ false
-  open_clear t e = not-true (barred newest ns ws os i t) (and_right (ltb t (wire_length ns ws i)) (not (barred newest ns ws os i t)) (inner t e))
+  pub open_clear : (t : ℕ) → open_at ns ws os i t ≡ true → barred newest 0 ns ws os i t ≡ false
+  open_clear t e = not-true (barred newest 0 ns ws os i t) (and_right (ltb t (wire_length ns ws i)) (not (barred newest 0 ns ws os i t)) (inner t e))
 
-  pub open_if : (t : ℕ) → 1 ≤ t → t < wire_length ns ws i → barred newest ns ws os i t ≡ false → open_at ns ws os i t ≡ true
+  pub open_if : (t : ℕ) → 1 ≤ t → t < wire_length ns ws i → barred newest 0 ns ws os i t ≡ false → open_at ns ws os i t ≡ true
   unfolding open_at
   open_if t a b c = rw (le-leb 1 t a, lt-ltb t (wire_length ns ws i) b, c)
 
@@ -62,7 +62,7 @@ pub last_within :
     Branch ns ws os i lo hi →
     weight ≤ limit →
     limit < weight + stretch_weight ws i lo hi →
-    Highest (barred newest ns ws os i) (lo + (limit - weight) / wire_factor ws i) found →
+    Highest (barred newest 0 ns ws os i) (lo + (limit - weight) / wire_factor ws i) found →
     IsSomeAnd found (LastWithin ns ws os i lo hi weight limit)
 last_within ns ws os i lo hi weight limit None b w l h =
     let one = open_low ns ws os i lo b.lo_open in

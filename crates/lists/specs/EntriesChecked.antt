@@ -10,7 +10,8 @@ use borrow.Author.Tests.{ltb-true, ltb-false, lt-ltb, le-ltb, eq-eqb, ne_eqb}
 use Rattle.laws.specs.Sums.{by, and_left}
 use Rattle.net.specs.Layout.{wire_bytes, entry_bytes}
 use Rattle.net.specs.Net.{node_count, wire_layer, wire_length, barred}
-use Rattle.net.specs.Stage.{Stage, stage_of}
+use Rattle.net.specs.Stage.{Stage, stage_under}
+use Rattle.net.specs.NoClearance.{stage_of}
 use Rattle.net.specs.Refusal.{Verdict, none, refusal, met, refused_if, or_else, first_of, net_refusal}
 use Rattle.net.specs.First.{none_if, none_or, first-none, first-unmet, unmet-number}
 use Rattle.net.specs.Accepted.{net-right}
@@ -37,32 +38,32 @@ module _ (ns ws : List ℕ) (checked : WiresChecked ns ws) (i : ℕ) (h : i < no
   present-checked k y = checked i (ltb-true 0 i (and_left (ltb 0 i) (leb (wire_layer ws i) k) y)) h
 
 -- position t of a line of length `len`: 13 position outside; 14 barred
-unfoldable pub position_refusal : ℕ → List ℕ → Line → ℕ → ℕ → ℕ → Verdict
-position_refusal v os line len t place = or_else (refused_if (not (leb 1 t && ltb t len)) 13 place) (refused_if (barred_at v os line t) 14 place)
+unfoldable pub position_refusal : ℕ → ℕ → List ℕ → Line → ℕ → ℕ → ℕ → Verdict
+position_refusal v c os line len t place = or_else (refused_if (not (leb 1 t && ltb t len)) 13 place) (refused_if (barred_at v c os line t) 14 place)
 
 -- a point: 13 on its wire, then its position on the wire's line
-module _ (v : ℕ) (ns ws os : List ℕ) (k i t place : ℕ) where
-  pub no_wire : node_count ns ≤ i → refusal 13 place ≡ point_refusal (stage_of v ns ws os k) i t place
+module _ (v c : ℕ) (ns ws os : List ℕ) (k i t place : ℕ) where
+  pub no_wire : node_count ns ≤ i → refusal 13 place ≡ point_refusal (stage_under v c ns ws os k) i t place
   unfolding point_refusal stage_of
   no_wire h = rw (le-ltb _ _ h) (bools (ltb 0 i) (leb (wire_layer ws i) k) (leb 1 t && ltb t (wire_length ns ws i)))
     where
-      bools : (a b c : Bool) → refusal 13 place ≡ or_else (refused_if (not ((a && (false && b)) && c)) 13 place) (refused_if (barred v ns ws os i t) 14 place)
-      bools true b c = refl
-      bools false b c = refl
+      bools : (a b d : Bool) → refusal 13 place ≡ or_else (refused_if (not ((a && (false && b)) && d)) 13 place) (refused_if (barred v c ns ws os i t) 14 place)
+      bools true b d = refl
+      bools false b d = refl
 
-  pub at_node : t ≡ 0 → refusal 13 place ≡ point_refusal (stage_of v ns ws os k) i t place
+  pub at_node : t ≡ 0 → refusal 13 place ≡ point_refusal (stage_under v c ns ws os k) i t place
   unfolding point_refusal
   at_node z = grind (arith, nat_tests)
 
   module _ (a : i < node_count ns) where
-    pub absent_wire : (ltb 0 i && leb (wire_layer ws i) k) ≡ false → refusal 13 place ≡ point_refusal (stage_of v ns ws os k) i t place
+    pub absent_wire : (ltb 0 i && leb (wire_layer ws i) k) ≡ false → refusal 13 place ≡ point_refusal (stage_under v c ns ws os k) i t place
     unfolding point_refusal stage_of
     absent_wire z = rw (lt-ltb _ _ a, z)
 
     pub position_point : (ltb 0 i && leb (wire_layer ws i) k) ≡ true
-        → position_refusal v os (line_of ns ws i) (wire_length ns ws i) t place ≡ point_refusal (stage_of v ns ws os k) i t place
+        → position_refusal v c os (line_of ns ws i) (wire_length ns ws i) t place ≡ point_refusal (stage_under v c ns ws os k) i t place
     unfolding position_refusal point_refusal stage_of
-    position_point y = rw (lt-ltb _ _ a, y, barred_is v ns ws os i t)
+    position_point y = rw (lt-ltb _ _ a, y, barred_is v c ns ws os i t)
 
 -- an entry stands after the one before, or not: the wires, then the positions on one wire
 module _ (list : List ℕ) (e : ℕ) (p : 0 < e) where

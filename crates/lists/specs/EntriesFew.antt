@@ -7,7 +7,7 @@ use Rattle.laws.specs.Sum.{χ, sum}
 use Rattle.laws.specs.Sums.{by, no_both, not_true_false, χ-≤, χ-no, sum_bound, sum-zero}
 use Rattle.net.specs.Limits.{length_bound}
 use Rattle.net.specs.Net.{node_count}
-use Rattle.net.specs.Stage.{stage_of}
+use Rattle.net.specs.NoClearance.{stage_of}
 use Rattle.net.specs.Refusal.{none}
 use Rattle.net.specs.Accepted.{NetRight, formed, present-positive, present-inside}
 use Rattle.points.specs.Geometry.{checked_of, length-small}

@@ -2,20 +2,28 @@
 -- Assumes nothing.
 use Rattle.std.specs.Prelude.{ℕ, ◌≡◌, refl, List, [], ◌∷◌}
 use Rattle.laws.specs.Sum.{any}
-use Rattle.net.specs.Net.{wire_length, point_x, point_y, holds, barred}
-use Rattle.net.specs.Stage.{stage_of}
+use Rattle.net.specs.Net.{wire_length, point_x, point_y, near, barred}
+use Rattle.net.specs.Stage.{stage_under}
+use Rattle.net.specs.NoClearance.{stage_of}
 use Rattle.net.specs.Refusal.{Verdict, none, refusal, first_of}
 use Rattle.pieces.specs.Legal.{after}
 use Rattle.pieces.specs.JumperList.{point_refusal, entry_refusal, list_refusal}
 
--- the refusal of a list at a stage; the net has one wire of 13 steps, from (13,0) to (0,0), on a layer, and obstacles of a version
+-- the refusal of a list at a stage under a clearance; the net has one wire of 13 steps, from (13,0) to (0,0), on a layer, and obstacles of a version
+abbrev pub refused_with : ℕ → ℕ → ℕ → List ℕ → ℕ → List ℕ → Verdict
+refused_with clearance layer version obstacles stage list =
+    list_refusal (stage_under version clearance (0 ∷ 0 ∷ 0 ∷ 0 ∷ 1 ∷ 13 ∷ 0 ∷ 0 ∷ 0 ∷ 1 ∷ []) (0 ∷ layer ∷ 1 ∷ []) obstacles stage) list
+
 abbrev pub refused_on : ℕ → ℕ → List ℕ → ℕ → List ℕ → Verdict
-refused_on layer version obstacles stage list =
-    list_refusal (stage_of version (0 ∷ 0 ∷ 0 ∷ 0 ∷ 1 ∷ 13 ∷ 0 ∷ 0 ∷ 0 ∷ 1 ∷ []) (0 ∷ layer ∷ 1 ∷ []) obstacles stage) list
+refused_on = refused_with 0
 
 -- the wire on layer 2, and an obstacle of version 1 at (7,0), which is position 6
 abbrev pub refused : ℕ → List ℕ → Verdict
 refused stage list = refused_on 2 1 (7 ∷ 0 ∷ 0 ∷ 0 ∷ 7 ∷ 0 ∷ 0 ∷ 0 ∷ []) stage list
+
+-- the same under a clearance, the obstacle at (7,1), which holds no point of the wire
+abbrev pub refused_near : ℕ → List ℕ → Verdict
+refused_near clearance list = refused_with clearance 2 1 (7 ∷ 0 ∷ 1 ∷ 0 ∷ 7 ∷ 0 ∷ 1 ∷ 0 ∷ []) 2 list
 
 -- the same with that obstacle of version 2, of a layer
 abbrev pub refused_under : ℕ → ℕ → List ℕ → Verdict
@@ -24,7 +32,7 @@ refused_under layer stage list = refused_on 2 2 (7 ∷ 0 ∷ 0 ∷ 0 ∷ 7 ∷ 0
 -- the refusal of a list on two wires, of 13 steps from (13,0) to (0,0) on layer 3, and of 5 from (13,5) to (13,0) on layer 2, under obstacles of version 2
 abbrev pub refused_on_two : List ℕ → List ℕ → Verdict
 refused_on_two obstacles list =
-    list_refusal (stage_of 2 (0 ∷ 0 ∷ 0 ∷ 0 ∷ 1 ∷ 13 ∷ 0 ∷ 0 ∷ 0 ∷ 0 ∷ 13 ∷ 0 ∷ 5 ∷ 0 ∷ 1 ∷ []) (0 ∷ 3 ∷ 1 ∷ 1 ∷ 2 ∷ 1 ∷ []) obstacles 3) list
+    list_refusal (stage_under 2 0 (0 ∷ 0 ∷ 0 ∷ 0 ∷ 1 ∷ 13 ∷ 0 ∷ 0 ∷ 0 ∷ 0 ∷ 13 ∷ 0 ∷ 5 ∷ 0 ∷ 1 ∷ []) (0 ∷ 3 ∷ 1 ∷ 1 ∷ 2 ∷ 1 ∷ []) obstacles 3) list
 
 pub record SmallLists : Type 0 where
   pub two_entries : refused 2 (1 ∷ 5 ∷ 0 ∷ 1 ∷ 12 ∷ 0 ∷ []) ≡ none
@@ -57,9 +65,17 @@ pub record SmallLists : Type 0 where
   pub own_length : refused_on_two [] (1 ∷ 7 ∷ 0 ∷ 2 ∷ 7 ∷ 0 ∷ []) ≡ refusal 13 1
   pub own_line : refused_on_two (13 ∷ 0 ∷ 3 ∷ 0 ∷ 13 ∷ 0 ∷ 3 ∷ 0 ∷ 16 ∷ []) (1 ∷ 7 ∷ 0 ∷ 2 ∷ 2 ∷ 0 ∷ []) ≡ refusal 14 1
   pub own_layer : refused_on_two (0 ∷ 0 ∷ 0 ∷ 0 ∷ 13 ∷ 0 ∷ 5 ∷ 0 ∷ 2 ∷ []) (1 ∷ 7 ∷ 0 ∷ 2 ∷ 2 ∷ 0 ∷ []) ≡ refusal 14 1
+  -- under a clearance the points so far from an obstacle are barred, the next is not; 13 comes before 14 as without
+  pub no_clearance : refused_near 0 (1 ∷ 6 ∷ 0 ∷ []) ≡ none
+  pub clearance_1 : refused_near 1 (1 ∷ 6 ∷ 0 ∷ []) ≡ refusal 14 0
+  pub side_of_1 : refused_near 1 (1 ∷ 5 ∷ 0 ∷ 1 ∷ 8 ∷ 0 ∷ []) ≡ refusal 14 0
+  pub behind_1 : refused_near 1 (1 ∷ 4 ∷ 0 ∷ 1 ∷ 8 ∷ 0 ∷ []) ≡ none
+  pub all_near : refused_near 65535 (1 ∷ 1 ∷ 0 ∷ []) ≡ refusal 14 0
+  pub outside_first : refused_near 65535 (1 ∷ 13 ∷ 0 ∷ []) ≡ refusal 13 0
+  pub order_first : refused_near 1 (1 ∷ 4 ∷ 0 ∷ 1 ∷ 4 ∷ 0 ∷ []) ≡ refusal 12 1
 
 pub small_lists : SmallLists
-unfolding list_refusal entry_refusal point_refusal after first_of stage_of wire_length barred holds point_x point_y any
+unfolding list_refusal entry_refusal point_refusal after first_of stage_of wire_length barred near point_x point_y any
 small_lists =
     record {
       two_entries = refl;
@@ -84,4 +100,11 @@ small_lists =
       own_length = refl;
       own_line = refl;
       own_layer = refl;
+      no_clearance = refl;
+      clearance_1 = refl;
+      side_of_1 = refl;
+      behind_1 = refl;
+      all_near = refl;
+      outside_first = refl;
+      order_first = refl;
     }

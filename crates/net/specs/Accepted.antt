@@ -12,7 +12,8 @@ use Rattle.laws.specs.Sums.{and_left, and_right, or_no_left, or_no_right}
 use Rattle.net.specs.Layout.{head_bytes, node_bytes, wire_bytes, obstacle_bytes, most_nodes, most_obstacles, most_layers, most_flags}
 use Rattle.net.specs.Net.{node_count, node_x, node_y, node_flags, wire_parent, wire_layer, wire_factor, obstacle_count, obstacle_x1, obstacle_y1, obstacle_x2, obstacle_y2, obstacle_layer}
 use Rattle.net.specs.File.{version_of, pair_count, offset, extent, pairs_right}
-use Rattle.net.specs.Stage.{stage_of}
+use Rattle.net.specs.Stage.{stage_under}
+use Rattle.net.specs.NoClearance.{stage_of}
 use Rattle.net.specs.Formed.{Formed}
 use Rattle.net.specs.Refusal.{none, met, or_else, refused_if, first_of, is_version, head_refusal, pairs_refusal, sections_refusal, node_refusal, wire_refusal, obstacle_refusal, net_refusal, read_refusal}
 use Rattle.net.specs.First.{and_no, unmet_if, unmet_l, unmet_r, first-unmet}
@@ -225,3 +226,7 @@ module _ (v : ℕ) (ns ws os : List ℕ) where
         inside = λ i p. present-inside k i p;
         below = λ i p. (r.wire i (present-positive k i p) (present-inside k i p)).below;
       }
+
+  pub formed_under : NetRight v ns ws os → (clearance k : ℕ) → Formed (stage_under v clearance ns ws os k)
+  unfolding stage_of
+  formed_under r clearance k = let f = formed r k in record { inside = f.inside; below = f.below }

@@ -1,12 +1,13 @@
--- What reading, writing and the stage answer on small files, from their definitions: no program that keeps its promise answers anything else there.
+-- What reading, writing, the stage and a clearance answer on small files, from their definitions: no program that keeps its promise answers anything else there.
 -- Assumes nothing.
-use Rattle.std.specs.Prelude.{ℕ, ◌≡◌, refl, true, false, length, drop}
+use Rattle.std.specs.Prelude.{ℕ, ◌≡◌, refl, Bool, true, false, length, drop}
 use mathlib.Core.List.{List, [], ◌∷◌, ◌++◌, replicate}
 use Rattle.laws.specs.Bytes.{bytes16, bytes32}
 use Rattle.laws.specs.Sum.{any}
-use Rattle.net.specs.Net.{holds, barred, point_x, point_y}
+use Rattle.net.specs.Net.{near, barred, point_x, point_y}
 use Rattle.net.specs.File.{head_of, file_of, pairs_right, stretch}
-use Rattle.net.specs.Stage.{stage_of}
+use Rattle.net.specs.Stage.{stage_under}
+use Rattle.net.specs.NoClearance.{stage_of}
 use Rattle.net.specs.Refusal.{none, refusal, first_of, is_version, stage_refusal, head_refusal, pairs_refusal, section_of, nodes_of, wires_of, obstacles_of, sections_refusal, node_refusal, wire_refusal, obstacle_refusal, net_refusal, read_refusal, answer, read_answer, write_refusal, write_answer, write_buffer}
 use Rattle.net.specs.Call.{call_refusal}
 
@@ -82,7 +83,7 @@ pub record SmallFiles : Type 0 where
   pub kept_short : (out : List ℕ) → length out ≡ 48 → write_buffer 1 (nodes 3) wires obstacles out ≡ out
 
 pub small_files : SmallFiles
-unfolding is_version holds barred point_x point_y any pairs_right stretch file_of head_of stage_of first_of stage_refusal head_refusal pairs_refusal section_of sections_refusal node_refusal wire_refusal obstacle_refusal net_refusal read_refusal answer read_answer write_refusal write_answer write_buffer
+unfolding is_version near barred point_x point_y any pairs_right stretch file_of head_of stage_of first_of stage_refusal head_refusal pairs_refusal section_of sections_refusal node_refusal wire_refusal obstacle_refusal net_refusal read_refusal answer read_answer write_refusal write_answer write_buffer
 small_files =
     record {
       flags_3 = refl;
@@ -116,4 +117,70 @@ small_files =
       four_after_version = refl;
       written_short = λ out short. rw short;
       kept_short = λ out short. rw short;
+    }
+
+-- position t of the wire is barred under a clearance by one obstacle of version 1; position 4 is the point (1, 5), 3 is (1, 6), 2 is (1, 7)
+abbrev pub barred_under : ℕ → ℕ → ℕ → ℕ → ℕ → ℕ → Bool
+barred_under clearance t x1 y1 x2 y2 =
+    (stage_under 1 clearance (nodes 3) wires (bytes16 x1 ++ bytes16 y1 ++ bytes16 x2 ++ bytes16 y2) 2).barred 1 t
+
+-- the point (x, y) lies near one obstacle of one point
+abbrev pub near_point : ℕ → ℕ → ℕ → ℕ → ℕ → Bool
+near_point clearance x y a b = near 1 clearance (bytes16 a ++ bytes16 b ++ bytes16 a ++ bytes16 b) 0 x y
+
+pub record SmallClearances : Type 0 where
+  -- so far outside in y is barred, one more is not, above the obstacle and below it
+  pub at_border : barred_under 0 4 1 4 1 5 ≡ true
+  pub behind_border : barred_under 0 3 1 4 1 5 ≡ false
+  pub above : barred_under 1 3 1 4 1 5 ≡ true
+  pub above_more : barred_under 1 2 1 4 1 5 ≡ false
+  pub below : barred_under 2 3 1 8 1 8 ≡ true
+  pub below_more : barred_under 1 3 1 8 1 8 ≡ false
+  -- the same in x, right of the point and left of it
+  pub right : barred_under 2 4 3 5 3 5 ≡ true
+  pub right_more : barred_under 1 4 3 5 3 5 ≡ false
+  pub left : barred_under 1 4 0 5 0 5 ≡ true
+  pub left_more : barred_under 0 4 0 5 0 5 ≡ false
+  -- so far in both is barred: corners are square; so far in one of them only is not
+  pub corner : barred_under 2 2 3 4 3 5 ≡ true
+  pub near_in_x_only : barred_under 2 2 3 3 3 4 ≡ false
+  pub near_in_y_only : barred_under 2 2 4 4 4 5 ≡ false
+  -- sums do not wrap: at both ends of the coordinates a clearance bars no less
+  pub last_x : near_point 1 65535 7 65535 7 ≡ true
+  pub last_y : near_point 1 7 65535 7 65535 ≡ true
+  pub before_last : near_point 1 65534 7 65535 7 ≡ true
+  pub first_x : near_point 1 0 7 0 7 ≡ true
+  pub first_y : near_point 1 7 0 7 0 ≡ true
+  pub greatest : near_point 65535 0 65535 65535 0 ≡ true
+  pub greatest_less : near_point 65534 0 65535 65535 0 ≡ false
+  -- an obstacle of a layer below the wire's bars nothing, however large the clearance
+  pub lower_layer_far : (stage_under 2 65535 (nodes 3) wires (layered 1 1 1 1) 2).barred 1 4 ≡ false
+  pub same_layer_near : (stage_under 2 1 (nodes 3) wires (layered 1 1 1 2) 2).barred 1 3 ≡ true
+
+pub small_clearances : SmallClearances
+unfolding near barred point_x point_y any stage_of
+small_clearances =
+    record {
+      at_border = refl;
+      behind_border = refl;
+      above = refl;
+      above_more = refl;
+      below = refl;
+      below_more = refl;
+      right = refl;
+      right_more = refl;
+      left = refl;
+      left_more = refl;
+      corner = refl;
+      near_in_x_only = refl;
+      near_in_y_only = refl;
+      last_x = refl;
+      last_y = refl;
+      before_last = refl;
+      first_x = refl;
+      first_y = refl;
+      greatest = refl;
+      greatest_less = refl;
+      lower_layer_far = refl;
+      same_layer_near = refl;
     }

@@ -2,7 +2,9 @@ pub mod Layout
 pub mod Limits
 pub mod Net
 pub mod Stage
+pub mod NoClearance
 pub mod Formed
+pub mod Clearance
 pub mod Refusal
 pub mod Numbers
 pub mod Call

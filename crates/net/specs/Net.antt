@@ -1,4 +1,5 @@
--- Document 01, "The net": nodes, wires, obstacles, points; document 02, CR 2: an obstacle's layer. A net is its version and its three sections, as bytes.
+-- Document 01, "The net": nodes, wires, obstacles, points; document 02: an obstacle's layer (CR 2), clearance (CR 4). A net is its version and its three
+-- sections, as bytes.
 -- Assumes nothing.
 use Rattle.std.specs.Prelude.{ℕ, ◌+◌, ◌-◌, ◌*◌, ◌/◌, ◌%◌, Bool, ◌&&◌, cond, List, length, get_or, leb, ltb, eqb}
 use Rattle.laws.specs.Sum.{any}
@@ -77,15 +78,16 @@ obstacle_y2 version obstacles k = le16 obstacles (obstacle_bytes version * k + 6
 abbrev pub obstacle_layer : ℕ → List ℕ → ℕ → ℕ
 obstacle_layer version obstacles k = cond (eqb version 1) most_layers (get_or obstacles (obstacle_bytes version * k + 8) 0)
 
--- obstacle k holds the point x, y, its border included
-unfoldable pub holds : ℕ → List ℕ → ℕ → ℕ → ℕ → Bool
-holds version obstacles k x y =
-    leb (obstacle_x1 version obstacles k) x && leb x (obstacle_x2 version obstacles k)
-    && (leb (obstacle_y1 version obstacles k) y && leb y (obstacle_y2 version obstacles k))
+-- the point x, y lies at most a clearance outside obstacle k in x, and at most that far outside in y
+unfoldable pub near : ℕ → ℕ → List ℕ → ℕ → ℕ → ℕ → Bool
+near version clearance obstacles k x y =
+    leb (obstacle_x1 version obstacles k) (x + clearance) && leb x (obstacle_x2 version obstacles k + clearance)
+    && (leb (obstacle_y1 version obstacles k) (y + clearance) && leb y (obstacle_y2 version obstacles k + clearance))
 
--- the point at position t of wire i is barred: an obstacle holds it, and the wire's layer is at most the obstacle's
-unfoldable pub barred : ℕ → List ℕ → List ℕ → List ℕ → ℕ → ℕ → Bool
-barred version nodes wires obstacles i t =
+-- the point at position t of wire i is barred: it lies so near an obstacle, and the wire's layer is at most the obstacle's
+unfoldable pub barred : ℕ → ℕ → List ℕ → List ℕ → List ℕ → ℕ → ℕ → Bool
+barred version clearance nodes wires obstacles i t =
     any (obstacle_count version obstacles)
     (λ k.
-    holds version obstacles k (point_x nodes wires i t) (point_y nodes wires i t) && leb (wire_layer wires i) (obstacle_layer version obstacles k))
+    near version clearance obstacles k (point_x nodes wires i t) (point_y nodes wires i t)
+    && leb (wire_layer wires i) (obstacle_layer version obstacles k))

@@ -15,9 +15,9 @@ pub record Stage : Type 0 where
   pub source : ℕ → Bool
   pub barred : ℕ → ℕ → Bool
 
--- stage k of a net: the wires of layer at most k are present
-unfoldable pub stage_of : ℕ → List ℕ → List ℕ → List ℕ → ℕ → Stage
-stage_of version ns ws os k =
+-- stage k of a net under a clearance: the wires of layer at most k are present
+abbrev pub stage_under : ℕ → ℕ → List ℕ → List ℕ → List ℕ → ℕ → Stage
+stage_under version clearance ns ws os k =
     record {
       nodes = node_count ns;
       parent = λ i. wire_parent ws i;
@@ -27,5 +27,5 @@ stage_of version ns ws os k =
       present = λ i. ltb 0 i && (ltb i (node_count ns) && leb (wire_layer ws i) k);
       gate = λ i. is_gate (node_flags ns i);
       source = λ i. is_source (node_flags ns i);
-      barred = λ i t. barred version ns ws os i t;
+      barred = λ i t. barred version clearance ns ws os i t;
     }

@@ -2,7 +2,6 @@ pub mod Piece
 pub mod Legal
 pub mod Name
 pub mod JumperList
-pub mod Barring
 pub mod Real
 pub mod Harmful
 pub mod Rises
@@ -21,6 +20,8 @@ pub mod Listed
 pub mod Reports
 pub mod Weight
 pub mod Size
+pub mod Barring
+pub mod BarringReports
 pub mod SmallestSet
 pub mod Outer
 pub mod Sources

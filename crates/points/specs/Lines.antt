@@ -2,10 +2,11 @@
 -- Assumes nothing.
 use Rattle.std.specs.Prelude.{ℕ, ◌<◌, ◌≤◌, ◌≡◌, ◌⊎◌, Bool, true, false, ◌&&◌, List, get_or, leb, ltb, Option, None, Some}
 use Rattle.std.proofs.Common.{sym, ◌∙◌, arith, ltb-true, ltb-false, leb-true, leb-false}
+use Rattle.std.proofs.lemmas.Bool.Decides.{nat_tests}
 use Rattle.laws.specs.Sum.{any}
 use Rattle.laws.specs.Sums.{by, and_left, and_right, and_intro, any-yes, any_none}
 use Rattle.net.specs.Layout.{newest}
-use Rattle.net.specs.Net.{node_x, node_y, wire_parent, wire_length, obstacle_x1, obstacle_y1, obstacle_x2, obstacle_y2, obstacle_layer, obstacle_count, wire_layer, holds, barred}
+use Rattle.net.specs.Net.{node_x, node_y, wire_parent, wire_length, obstacle_x1, obstacle_y1, obstacle_x2, obstacle_y2, obstacle_layer, obstacle_count, wire_layer, near, barred}
 use Rattle.net.specs.declared.fields.Obstacle.{Obstacle}
 use Rattle.points.specs.Cuttable.{Checked, Highest, Lowest, LastBelow, FirstAbove}
 use Rattle.points.specs.Geometry.{heading, stepped, Reach, reach_less, last_below, first_above, between, axis_below, axis_above, both_below, both-above, reach-x, reach-y, point_x_is, point_y_is}
@@ -64,9 +65,9 @@ obstacle-above o line end reach ea eb l m c =
     m
     c
 
--- obstacle k bars the point x, y to a wire of a layer
-abbrev pub bars : ℕ → List ℕ → ℕ → ℕ → ℕ → ℕ → Bool
-bars version obstacles layer k x y = holds version obstacles k x y && leb layer (obstacle_layer version obstacles k)
+-- obstacle k bars the point x, y to a wire of a layer, under a clearance
+abbrev pub bars : ℕ → ℕ → List ℕ → ℕ → ℕ → ℕ → ℕ → Bool
+bars version clearance obstacles layer k x y = near version clearance obstacles k x y && leb layer (obstacle_layer version obstacles k)
 
 -- o is obstacle k
 pub record IsObstacle (version : ℕ) (obstacles : List ℕ) (k : ℕ) (o : Obstacle) : Type 0 where
@@ -76,11 +77,11 @@ pub record IsObstacle (version : ℕ) (obstacles : List ℕ) (k : ℕ) (o : Obst
   pub y2 : o.y2 ≡ obstacle_y2 version obstacles k
   pub layer : o.layer ≡ obstacle_layer version obstacles k
 
-pub covers_is : {version : ℕ} {obstacles : List ℕ} {k : ℕ} {o : Obstacle} → IsObstacle version obstacles k o → (p : Point) → covers o p ≡ holds version obstacles k p.x p.y
-unfolding holds
-covers_is e p = rw (e.x1, e.x2, e.y1, e.y2)
+pub covers_is : {version : ℕ} {obstacles : List ℕ} {k : ℕ} {o : Obstacle} → IsObstacle version obstacles k o → (p : Point) → covers o p ≡ near version 0 obstacles k p.x p.y
+unfolding near
+covers_is e p = rw (e.x1, e.x2, e.y1, e.y2) (grind (arith, nat_tests))
 
-pub bars_is : {version : ℕ} {obstacles : List ℕ} {k : ℕ} {o : Obstacle} → IsObstacle version obstacles k o → (layer : ℕ) (p : Point) → (covers o p && leb layer o.layer) ≡ bars version obstacles layer k p.x p.y
+pub bars_is : {version : ℕ} {obstacles : List ℕ} {k : ℕ} {o : Obstacle} → IsObstacle version obstacles k o → (layer : ℕ) (p : Point) → (covers o p && leb layer o.layer) ≡ bars version 0 obstacles layer k p.x p.y
 bars_is e layer p = rw (covers_is e p, e.layer)
 
 -- o is one of the obstacles, and bars the point t steps on
@@ -88,15 +89,17 @@ pub record BarredBy (obstacles : List ℕ) (line : Line) (t : ℕ) (o : Obstacle
   pub k : ℕ
   pub inside : k < obstacle_count newest obstacles
   pub is : IsObstacle newest obstacles k o
-  pub barring : bars newest obstacles line.layer k (point_on line t).x (point_on line t).y ≡ true
+  pub barring : bars newest 0 obstacles line.layer k (point_on line t).x (point_on line t).y ≡ true
 
 -- some obstacle bars the point t steps on
-unfoldable pub barred_at : ℕ → List ℕ → Line → ℕ → Bool
-barred_at version obstacles line t = any (obstacle_count version obstacles) (λ k. bars version obstacles line.layer k (point_on line t).x (point_on line t).y)
+unfoldable pub barred_at : ℕ → ℕ → List ℕ → Line → ℕ → Bool
+barred_at version clearance obstacles line t =
+    any (obstacle_count version obstacles) (λ k. bars version clearance obstacles line.layer k (point_on line t).x (point_on line t).y)
 
-pub barred_is : (version : ℕ) (nodes wires obstacles : List ℕ) (i t : ℕ) → barred_at version obstacles (line_of nodes wires i) t ≡ barred version nodes wires obstacles i t
+pub barred_is : (version clearance : ℕ) (nodes wires obstacles : List ℕ) (i t : ℕ) →
+    barred_at version clearance obstacles (line_of nodes wires i) t ≡ barred version clearance nodes wires obstacles i t
 unfolding barred_at barred
-barred_is version nodes wires obstacles i t = rw (point_x_is nodes wires i t, point_y_is nodes wires i t)
+barred_is version clearance nodes wires obstacles i t = rw (point_x_is nodes wires i t, point_y_is nodes wires i t)
 
 -- none before the first that passes a test does
 pub first-none : (n r : ℕ) (f : ℕ → Bool) → ((j : ℕ) → j < r → f j ≡ false) → n ≤ r → any n f ≡ false
@@ -108,25 +111,25 @@ module _ (obstacles : List ℕ) (line : Line) (t : ℕ) {o : Obstacle} (b : Barr
   held : covers o (point_on line t) ≡ true
   held =
       covers_is b.is (point_on line t)
-      ∙ and_left (holds newest obstacles b.k (point_on line t).x (point_on line t).y) (leb line.layer (obstacle_layer newest obstacles b.k)) b.barring
+      ∙ and_left (near newest 0 obstacles b.k (point_on line t).x (point_on line t).y) (leb line.layer (obstacle_layer newest obstacles b.k)) b.barring
 
-  bars-held : (s : ℕ) → covers o (point_on line s) ≡ true → barred_at newest obstacles line s ≡ true
+  bars-held : (s : ℕ) → covers o (point_on line s) ≡ true → barred_at newest 0 obstacles line s ≡ true
   unfolding barred_at
   bars-held s g =
-      any-yes (obstacle_count newest obstacles) b.k (λ k. bars newest obstacles line.layer k (point_on line s).x (point_on line s).y) b.inside
+      any-yes (obstacle_count newest obstacles) b.k (λ k. bars newest 0 obstacles line.layer k (point_on line s).x (point_on line s).y) b.inside
       (and_intro (sym (covers_is b.is (point_on line s)) ∙ g)
-      (and_right (holds newest obstacles b.k (point_on line t).x (point_on line t).y) (leb line.layer (obstacle_layer newest obstacles b.k)) b.barring))
+      (and_right (near newest 0 obstacles b.k (point_on line t).x (point_on line t).y) (leb line.layer (obstacle_layer newest obstacles b.k)) b.barring))
 
   pub leap_down : {r last : ℕ} → 0 < t →
       LastBelow (λ t. covers o (point_on line t)) r →
-      ((s : ℕ) → t < s → s ≤ last → barred_at newest obstacles line s ≡ true) → (r < t) × ((s : ℕ) → r < s → s ≤ last → barred_at newest obstacles line s ≡ true)
+      ((s : ℕ) → t < s → s ≤ last → barred_at newest 0 obstacles line s ≡ true) → (r < t) × ((s : ℕ) → r < s → s ≤ last → barred_at newest 0 obstacles line s ≡ true)
   leap_down p below passed =
       let z = below t p held in
       (z.0, λ s l m. by (leb s t) (λ u. bars-held s (z.1 s l (leb-true s t u))) (λ u. passed s (leb-false s t u) m))
 
   pub leap_up : {r first end : ℕ} → t < end →
       FirstAbove (λ t. covers o (point_on line t)) end r →
-      ((s : ℕ) → first ≤ s → s < t → barred_at newest obstacles line s ≡ true) → (t < r) × ((s : ℕ) → first ≤ s → s < r → barred_at newest obstacles line s ≡ true)
+      ((s : ℕ) → first ≤ s → s < t → barred_at newest 0 obstacles line s ≡ true) → (t < r) × ((s : ℕ) → first ≤ s → s < r → barred_at newest 0 obstacles line s ≡ true)
   leap_up p above passed =
       let z = above t p held in
       (z.0, λ s l m. by (ltb s t) (λ u. passed s l (ltb-true s t u)) (λ u. bars-held s (z.1 s (ltb-false s t u) m)))

@@ -1,4 +1,4 @@
-// The points of a wire, and the obstacles that bar them. The search sees obstacles in the form of the newest version.
+// The points of a wire, and the obstacles that bar them. The search sees obstacles in the form of the newest version, which a clearance has grown already.
 // Of a wire the public functions take the sections and its number, and require that it is checked: a `Net`, whose obstacles are right too, would ask more of
 // their callers. `is_barred` takes the wire's line, which serves all its points, and answers for every version, which the C interface gives as a number.
 // `k < obstacle_count ..` bounds a read in place, and `Reaches line t` is about a position, not about the line.
@@ -7,9 +7,9 @@
 ghost use Rattle.std.specs.Prelude.{◌≡◌, ◌&&◌, ◌<◌, ◌≤◌, false, leb, MatchOption};
 ghost use Rattle.net.specs.Layout.{newest};
 ghost use Rattle.net.specs.Limits.{length_bound};
-ghost use Rattle.net.specs.Net.{wire_length, obstacle_count, barred};
+ghost use Rattle.net.specs.Net.{wire_length, obstacle_count, near, barred};
 ghost use Rattle.points.specs.Cuttable.{Checked, Highest, Lowest};
-ghost use Rattle.points.specs.Lines.{Reaches, covers, bars, barred_at, BarredBy};
+ghost use Rattle.points.specs.Lines.{Reaches, covers, barred_at, BarredBy};
 
 mod line;
 
@@ -30,36 +30,41 @@ pub fn length_of(nodes: &[u8], wires: &[u8], i: usize) -> u32
     u32::from(from.x.abs_diff(to.x)) + u32::from(from.y.abs_diff(to.y))
 }
 
-// Position t of a line is barred, by obstacles of any version.
-pub fn is_barred(version: u16, obstacles: &[u8], line: Line, t: u32) -> bool
+// Position t of a line is barred under a clearance, by obstacles of any version.
+pub fn is_barred(version: u16, clearance: u16, obstacles: &[u8], line: Line, t: u32) -> bool
     requires { Reaches line t }
-    ensures { result ≡ barred_at version obstacles.now line t }
+    ensures { result ≡ barred_at version clearance obstacles.now line t }
 {
     if obstacles.is_empty() {
         return false;
     }
     let p = line.at(t);
     for k in 0..obstacle_count(version, obstacles) {
-        if bars_point(version, obstacles, line.layer, k, p) {
+        if is_near(version, clearance, obstacles, k, p)
+            && line.layer <= obstacle_at(version, obstacles, k).layer
+        {
             return true;
         }
     }
     false
 }
 
-// Obstacle k bars the point p to a wire of a layer. One coordinate is read after another, since most obstacles are passed at their first; `bars` has the whole
-// obstacle, which the searches need where it bars. Tried as one, to the time before the design pass: by whole obstacles a report of 8,000 jumpers under 256
-// obstacles took 1.52, and takes 1.01 so; by coordinates repair of a chain of 256 nodes without obstacles took 1.27, and takes 0.98 so.
-fn bars_point(version: u16, obstacles: &[u8], layer: u8, k: usize, p: Point) -> bool
+// The point p lies at most a clearance outside obstacle k in x, and at most that far outside in y. One coordinate is read after another, since most obstacles are
+// passed at their first; `bars` has the whole obstacle, which the searches need where it bars. Tried as one, to the time before the design pass: by whole
+// obstacles a report of 8,000 jumpers under 256 obstacles took 1.52, and takes 1.01 so; by coordinates repair of a chain of 256 nodes without obstacles took 1.27,
+// and takes 0.98 so. The point is moved up by the clearance, and the upper sides by twice that: two numbers a point in place of four, which took 1.11 of the time
+// without a clearance where this takes 1.05 (20,000 jumpers on 256 nodes).
+fn is_near(version: u16, clearance: u16, obstacles: &[u8], k: usize, p: Point) -> bool
     requires { k < obstacle_count version obstacles.now }
-    ensures { result ≡ bars version obstacles.now layer k p.x p.y }
+    ensures { result ≡ near version clearance obstacles.now k p.x p.y }
 {
     let at = obstacle_bytes(version) * k;
-    u16_at(obstacles, at) <= p.x
-        && p.x <= u16_at(obstacles, at + 4)
-        && u16_at(obstacles, at + 2) <= p.y
-        && p.y <= u16_at(obstacles, at + 6)
-        && layer <= obstacle_at(version, obstacles, k).layer
+    let clearance = u32::from(clearance);
+    let (x, y) = (u32::from(p.x) + clearance, u32::from(p.y) + clearance);
+    u32::from(u16_at(obstacles, at)) <= x
+        && x <= u32::from(u16_at(obstacles, at + 4)) + 2 * clearance
+        && u32::from(u16_at(obstacles, at + 2)) <= y
+        && y <= u32::from(u16_at(obstacles, at + 6)) + 2 * clearance
 }
 
 // The highest position of wire i from 1 to x that is not barred.
@@ -71,7 +76,7 @@ pub fn highest_cuttable(
     x: u32,
 ) -> Option<u32>
     requires { Checked nodes.now wires.now i × (x ≤ wire_length nodes.now wires.now i) }
-    ensures { Highest (barred newest nodes.now wires.now obstacles.now i) x result }
+    ensures { Highest (barred newest 0 nodes.now wires.now obstacles.now i) x result }
 {
     highest_free(obstacles, Line::of_wire(nodes, wires, i), x)
 }
@@ -85,7 +90,7 @@ pub fn lowest_cuttable(
     x: u32,
 ) -> Option<u32>
     requires { Checked nodes.now wires.now i × (0 < x) }
-    ensures { Lowest (barred newest nodes.now wires.now obstacles.now i) x (wire_length nodes.now wires.now i) result }
+    ensures { Lowest (barred newest 0 nodes.now wires.now obstacles.now i) x (wire_length nodes.now wires.now i) result }
 {
     let end = length_of(nodes, wires, i);
     lowest_free(obstacles, Line::of_wire(nodes, wires, i), x, end)
@@ -94,7 +99,7 @@ pub fn lowest_cuttable(
 // The search down a line. An obstacle that bars a position is left behind in one step, where a `for` would try its positions one by one.
 fn highest_free(obstacles: &[u8], line: Line, last: u32) -> Option<u32>
     requires { Reaches line last }
-    ensures { Highest (barred_at newest obstacles.now line) last result }
+    ensures { Highest (barred_at newest 0 obstacles.now line) last result }
 {
     let mut t = last;
     while 0 < t {
@@ -109,7 +114,7 @@ fn highest_free(obstacles: &[u8], line: Line, last: u32) -> Option<u32>
 // The search up, by steps like those down, for positions below `end`; with a direction as a parameter both searches would take each comparison twice.
 fn lowest_free(obstacles: &[u8], line: Line, first: u32, end: u32) -> Option<u32>
     requires { Reaches line end × (0 < first) }
-    ensures { Lowest (barred_at newest obstacles.now line) first end result }
+    ensures { Lowest (barred_at newest 0 obstacles.now line) first end result }
 {
     let mut t = first;
     while t < end {
@@ -124,7 +129,7 @@ fn lowest_free(obstacles: &[u8], line: Line, first: u32, end: u32) -> Option<u32
 // The first obstacle that bars position t of a line.
 fn first_barring(obstacles: &[u8], line: Line, t: u32) -> Option<Obstacle>
     requires { Reaches line t }
-    ensures { MatchOption result (barred_at newest obstacles.now line t ≡ false) (BarredBy obstacles.now line t) }
+    ensures { MatchOption result (barred_at newest 0 obstacles.now line t ≡ false) (BarredBy obstacles.now line t) }
 {
     let p = line.at(t);
     for k in 0..obstacle_count(NEWEST_VERSION, obstacles) {

@@ -6,7 +6,7 @@ use mathlib.Core.List.{List, [], ◌∷◌, ◌++◌, flat_map}
 use Rattle.laws.specs.Sum.{sum, any, lowest, highest}
 use Rattle.laws.specs.Gather.{gather}
 use Rattle.net.specs.Net.{wire_length, barred}
-use Rattle.net.specs.Stage.{stage_of}
+use Rattle.net.specs.NoClearance.{stage_of}
 use Rattle.net.specs.Refusal.{none, net_refusal, sections_refusal, node_refusal, wire_refusal, obstacle_refusal, first_of}
 use Rattle.net.specs.Accepted.{net-right}
 use Rattle.pieces.specs.Piece.{weight_of, has_gate, has_source, is_harmful}

@@ -2,7 +2,8 @@
 -- the net and the list are accepted with.
 -- Assumes nothing.
 use Rattle.std.specs.Prelude.{ℕ, ◌≡◌, List, []}
-use Rattle.net.specs.Stage.{Stage, stage_of}
+use Rattle.net.specs.Stage.{Stage}
+use Rattle.net.specs.NoClearance.{stage_of}
 use Rattle.net.specs.Accepted.{NetRight}
 use Rattle.net.specs.Refusal.{none, net_refusal}
 use Rattle.pieces.specs.JumperList.{list_refusal}

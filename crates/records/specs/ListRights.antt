@@ -7,7 +7,7 @@ use Rattle.laws.specs.Sums.{and_left}
 use Rattle.net.specs.Layout.{record_bytes, wire_bytes, most_nodes, most_layers}
 use Rattle.net.specs.Limits.{length_bound, factor_bound, wire_weight_bound}
 use Rattle.net.specs.Net.{node_count, node_flags, wire_parent, wire_layer, wire_length}
-use Rattle.net.specs.Stage.{stage_of}
+use Rattle.net.specs.NoClearance.{stage_of}
 use Rattle.net.specs.Formed.{Formed}
 use Rattle.points.specs.Geometry.{checked_of}
 use Rattle.net.specs.Accepted.{formed, present-positive, present-inside}

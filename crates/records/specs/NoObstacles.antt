@@ -1,20 +1,22 @@
--- A net and a jumper list are accepted with some obstacles if and only if they are accepted without any: only an obstacle that is itself wrong, or bars a jumper, is refused.
+-- A net and a jumper list that are accepted with some obstacles, under whatever clearance, are accepted without any: only an obstacle that is itself wrong, or
+-- bars a jumper, is refused.
 -- Assumes nothing.
 use Rattle.std.specs.Prelude.{ℕ, ◌-◌, ◌%◌, ◌≡◌, refl, false, not, ◌&&◌, ◌||◌, List, [], length, leb, ltb, eqb}
 use Rattle.std.proofs.Common.{sym, ap, arith}
 use Rattle.laws.specs.Sum.{any}
 use Rattle.net.specs.Layout.{entry_bytes}
 use Rattle.net.specs.Net.{barred}
-use Rattle.net.specs.Stage.{stage_of}
+use Rattle.net.specs.Stage.{stage_under}
+use Rattle.net.specs.NoClearance.{stage_of}
 use Rattle.net.specs.Refusal.{none, met, refused_if, first_of}
 use Rattle.net.specs.First.{none_if, unmet_l, unmet_r, first-unmet, first-none}
 use Rattle.net.specs.Accepted.{NetRight, net-right}
 use Rattle.net.specs.AcceptedIf.{net-none}
 use Rattle.pieces.specs.Legal.{entry_wire, entry_position, after}
 use Rattle.pieces.specs.JumperList.{entry_count, point_refusal, entry_refusal, list_refusal}
-use Rattle.records.specs.ListRight.{ListAccepted, AcceptedWithoutObstacles}
+use Rattle.records.specs.ListRight.{ListRight, ListAccepted, AcceptedWithoutObstacles}
 
-module _ (v : ℕ) (ns ws os : List ℕ) where
+module _ (v c : ℕ) (ns ws os : List ℕ) where
   right_without : NetRight v ns ws os → NetRight 1 ns ws []
   right_without r =
       let s = r.sized in
@@ -34,11 +36,11 @@ module _ (v : ℕ) (ns ws os : List ℕ) where
       }
 
   -- entry e: its order and its point are as they were, and nothing bars the point
-  entry_without : (k : ℕ) (list : List ℕ) (e : ℕ) → met (entry_refusal (stage_of v ns ws os k) list e) ≡ false →
+  entry_without : (k : ℕ) (list : List ℕ) (e : ℕ) → met (entry_refusal (stage_under v c ns ws os k) list e) ≡ false →
       none ≡ entry_refusal (stage_of 1 ns ws [] k) list e
   unfolding entry_refusal point_refusal stage_of barred any
   entry_without k list e u =
-      let s = stage_of v ns ws os k in
+      let s = stage_under v c ns ws os k in
       let i = entry_wire list e in
       let t = entry_position list e in
       let unordered = not (eqb e 0 || after list (e - 1) e) in
@@ -47,10 +49,10 @@ module _ (v : ℕ) (ns ws os : List ℕ) where
       let u13 = unmet_l (refused_if outside 13 e) (refused_if (s.barred i t) 14 e) (unmet_r (refused_if unordered 12 e) point u) in
       rw (← none_if unordered 12 e refl (unmet_l (refused_if unordered 12 e) point u), ← none_if outside 13 e refl u13)
 
-  list_without : (k : ℕ) (list : List ℕ) → met (list_refusal (stage_of v ns ws os k) list) ≡ false → none ≡ list_refusal (stage_of 1 ns ws [] k) list
+  list_without : (k : ℕ) (list : List ℕ) → met (list_refusal (stage_under v c ns ws os k) list) ≡ false → none ≡ list_refusal (stage_of 1 ns ws [] k) list
   unfolding list_refusal
   list_without k list u =
-      let s = stage_of v ns ws os k in
+      let s = stage_under v c ns ws os k in
       let uneven = not (eqb (length list % entry_bytes) 0) in
       let each = first_of (entry_count list) (λ e. entry_refusal s list e) in
       let entries = first-unmet (λ e. entry_refusal s list e) (entry_count list) (unmet_r (refused_if uneven 12 0) each u) in
@@ -59,11 +61,11 @@ module _ (v : ℕ) (ns ws os : List ℕ) where
         ← first-none (λ e. entry_refusal (stage_of 1 ns ws [] k) list e) (entry_count list) (λ e h. entry_without k list e (entries e h)),
       )
 
-module _ {ns ws list : List ℕ} {k : ℕ} where
-  pub accepted_without : ListAccepted ns ws k list → AcceptedWithoutObstacles ns ws k list
-  accepted_without a =
-      let right = right_without a.0 ns ws a.1 a.2.right in
-      (sym (net-none 1 ns ws [] right), sym (list_without a.0 ns ws a.1 k list (ap met a.2.listed)))
+  pub accepted_without : (k : ℕ) (list : List ℕ) → NetRight v ns ws os → list_refusal (stage_under v c ns ws os k) list ≡ none → AcceptedWithoutObstacles ns ws k list
+  accepted_without k list right listed = (sym (net-none 1 ns ws [] (right_without right)), sym (list_without k list (ap met listed)))
 
-  pub accepted_with : AcceptedWithoutObstacles ns ws k list → ListAccepted ns ws k list
-  accepted_with a = (1, [], record { right = net-right 1 ns ws [] a.0; listed = a.1 })
+pub right_bare : {ns ws list : List ℕ} {k : ℕ} → AcceptedWithoutObstacles ns ws k list → ListRight 1 ns ws k list []
+right_bare {ns} {ws} a = record { right = net-right 1 ns ws [] a.0; listed = a.1 }
+
+pub accepted_with : {ns ws list : List ℕ} {k : ℕ} → AcceptedWithoutObstacles ns ws k list → ListAccepted ns ws k list
+accepted_with a = (1, [], right_bare a)

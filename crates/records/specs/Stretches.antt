@@ -9,7 +9,7 @@ use Rattle.laws.specs.Gathers.{gather_ap, flat_gather, length-records}
 use Rattle.laws.specs.Place.{place, place-more}
 use Rattle.net.specs.Layout.{record_bytes}
 use Rattle.net.specs.Net.{wire_layer, wire_factor}
-use Rattle.net.specs.Stage.{stage_of}
+use Rattle.net.specs.NoClearance.{stage_of}
 use Rattle.pieces.specs.Name.{name}
 use Rattle.pieces.specs.Legal.{entry_position}
 use Rattle.pieces.specs.JumperList.{entry_count, set_of}

@@ -14,7 +14,8 @@ use Rattle.laws.specs.Place.{place, place-front, place-behind}
 use Rattle.laws.specs.Gather.{gather}
 use Rattle.net.specs.Layout.{record_bytes, most_layers}
 use Rattle.net.specs.Net.{node_count, node_flags, wire_parent, wire_layer, wire_factor}
-use Rattle.net.specs.Stage.{Stage, stage_of}
+use Rattle.net.specs.Stage.{Stage}
+use Rattle.net.specs.NoClearance.{stage_of}
 use Rattle.net.specs.Formed.{Formed}
 use Rattle.pieces.specs.Piece.{Points}
 use Rattle.pieces.specs.Inside.{Inside}

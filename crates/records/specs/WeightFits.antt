@@ -9,7 +9,8 @@ use Rattle.laws.specs.Sums.{by, χ-≤, sum_bound, sum_more}
 use Rattle.net.specs.Layout.{wire_bytes}
 use Rattle.net.specs.Limits.{factor_bound, wire_weight_bound}
 use Rattle.net.specs.Net.{node_count, wire_factor, wire_length}
-use Rattle.net.specs.Stage.{Stage, stage_of}
+use Rattle.net.specs.Stage.{Stage}
+use Rattle.net.specs.NoClearance.{stage_of}
 use Rattle.net.specs.Accepted.{NetRight, present-positive, present-inside}
 use Rattle.points.specs.Geometry.{checked_of, length-small}
 use Rattle.pieces.specs.Piece.{Points, step, Group, weight_of}

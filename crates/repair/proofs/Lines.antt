@@ -28,7 +28,7 @@ done_lines : (r : Answer) (after list rest : List ℕ) (n : ℕ) → length list
 unfolding answer
 done_lines r after list rest n whole e k = rw (e, k) (ap (λ l. jumper_lines n l) (take_at list rest (entry_bytes * n) whole))
 
-pub repaired_lines : (stage limit : ℕ) (file out after : List ℕ) (r : Answer) → Repaired stage limit file out after r → length out ≡ lent_bytes →
+pub repaired_lines : (stage limit : ℕ) (file out after : List ℕ) (r : Answer) → Repaired stage limit 0 file out after r → length out ≡ lent_bytes →
     CallLines stage limit file (answer_lines r after)
 repaired_lines stage limit file out after r p lent = record {
   refused = λ m. line_of (call_refusal stage file) r after m (p.refused m).0;
@@ -38,13 +38,13 @@ repaired_lines stage limit file out after r p lent = record {
     sixteen : (n : ℕ) → r ≡ answer (refusal 16 (entry_bytes * n)) 0 → r.number ≡ 16
     sixteen n e = unfold answer in ap (λ (a : Answer). a.number) e
 
-    lines : met (call_refusal stage file) ≡ false → Judged (net_at file stage) limit out after r → JudgedLines (net_at file stage) limit (answer_lines r after)
+    lines : met (call_refusal stage file) ≡ false → Judged (net_at file stage 0) limit out after r → JudgedLines (net_at file stage 0) limit (answer_lines r after)
     lines u (no_legal_set f e k) = JudgedLines.no_legal_set f (line_of (refusal 15 0) r after refl e)
     lines u (too_short list n m lt e k) = absurd (enough p u (omega (arith, lent)) (sixteen n e))
     lines u (done list n m le e k) = JudgedLines.done list n m (done_lines r after list (drop (entry_bytes * n) out) n m.whole e k)
 
 -- the jumpers lie in the buffer
-pub jumpers-room : {stage limit : ℕ} {file out after : List ℕ} (r : Result ℕ Refusal) → Repaired stage limit file out after (answered r) →
+pub jumpers-room : {stage limit clearance : ℕ} {file out after : List ℕ} (r : Result ℕ Refusal) → Repaired stage limit clearance file out after (answered r) →
     IfOk r (λ n. entry_bytes * n ≤ length out)
 jumpers-room (Ok n) p = list_room p refl
 jumpers-room (Err refusal) p = tt

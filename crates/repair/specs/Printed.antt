@@ -33,7 +33,7 @@ pub data JudgedLines (s : Stage) (limit : ℕ) (lines : List ℕ) : Type 0 where
 -- the lines for a call: 1, then 2 to 11 and 20, then those for the net
 pub record CallLines (stage limit : ℕ) (file lines : List ℕ) : Type 0 where
   pub refused : met (call_refusal stage file) ≡ true → lines ≡ refusal_line (call_refusal stage file).number (call_refusal stage file).place
-  pub judged : met (call_refusal stage file) ≡ false → JudgedLines (net_at file stage) limit lines
+  pub judged : met (call_refusal stage file) ≡ false → JudgedLines (net_at file stage 0) limit lines
 
 -- the lines for an input
 abbrev pub Printed : List ℕ → List ℕ → Type 0

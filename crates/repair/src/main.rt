@@ -37,7 +37,7 @@ fn run<R: Read, W: Write>(from: &mut R, to: &mut W) -> io::Result<()>
     let limit = console::limit_of(text);
     let file = console::file_of(text);
     let mut out = [0u8; 65535];
-    let answer = antenna::antenna_repair(stage, limit, file, &mut out);
+    let answer = antenna::antenna_repair(stage, limit, 0, file, &mut out);
     print_answer(to, answer, &out)
 }
 

@@ -1,4 +1,4 @@
--- What repair promises: demand 3, for any stage, limit, file and lent buffer.
+-- What repair promises: demand 3, for any stage, limit, clearance, file and lent buffer.
 -- out is what the lent buffer holds when repair is called, after what it holds when repair returns, r what it returns. Assumes nothing.
 use Rattle.std.specs.Prelude.{ℕ, ◌*◌, ◌≤◌, ◌<◌, ◌≡◌, true, false, List, ◌++◌, length, drop}
 use Rattle.net.specs.declared.Answer.{Answer}
@@ -28,6 +28,6 @@ pub data Judged (s : Stage) (limit : ℕ) (out after : List ℕ) (r : Answer) : 
       Judged s limit out after r
 
 -- repair tries 1, then 2 to 11 and 20, then 15, then 16; after a refusal the buffer holds what it held
-pub record Repaired (stage limit : ℕ) (file out after : List ℕ) (r : Answer) : Type 0 where
+pub record Repaired (stage limit clearance : ℕ) (file out after : List ℕ) (r : Answer) : Type 0 where
   pub refused : met (call_refusal stage file) ≡ true → (r ≡ answer (call_refusal stage file) 0) × (after ≡ out)
-  pub judged : met (call_refusal stage file) ≡ false → Judged (net_at file stage) limit out after r
+  pub judged : met (call_refusal stage file) ≡ false → Judged (net_at file stage clearance) limit out after r

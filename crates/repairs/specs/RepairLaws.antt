@@ -9,18 +9,20 @@ use Rattle.std.proofs.lemmas.List.{length-replicate}
 use Rattle.laws.specs.Sum.{χ}
 use Rattle.laws.specs.Sums.{and_left, sum_bound}
 use Rattle.laws.specs.Lists.{over}
+use Rattle.laws.specs.Numbers.{Bytes}
 use Rattle.net.specs.declared.Answer.{Answer}
 use Rattle.net.specs.declared.Net.{Net}
 use Rattle.net.specs.Layout.{newest, entry_bytes}
 use Rattle.net.specs.Limits.{weight_bound}
 use Rattle.net.specs.Refusal.{none, refusal, answer, net_refusal}
 use Rattle.net.specs.Net.{node_count, wire_length, barred}
-use Rattle.net.specs.Stage.{Stage, stage_of}
+use Rattle.net.specs.Stage.{Stage, stage_under}
+use Rattle.net.specs.NoClearance.{stage_of}
 use Rattle.net.specs.Formed.{Formed}
 use Rattle.net.specs.Accepted.{NetRight, net-right, formed}
 use Rattle.points.specs.Geometry.{checked_of}
 use Rattle.pieces.specs.Legal.{Smallest, NoneLegal}
-use Rattle.pieces.specs.Barring.{none_legal_same, smallest-same}
+use Rattle.pieces.specs.Barring.{SameBarred, none_legal_same, smallest-same}
 use Rattle.obstacles.specs.Prepared.{prepared}
 use Rattle.obstacles.specs.PreparedLaws.{prepared_agrees, prepared-none}
 use Rattle.cuts.specs.Cluster as cuts
@@ -116,7 +118,7 @@ module _ (ns ws os : List ℕ) (k : ℕ) (right : NetRight newest ns ws os) {N :
   same-free : (j t : ℕ) → j < node_count ns → ltb 0 (get_or (los c.cuttable) j 0) ≡ true → free_at (stage_of newest ns ws os k) j t ≡ open_at ns ws os j t
   unfolding free_at open_at clusters_of stage_of
   same-free j t p cut =
-      rw (and_left ((stage_of newest ns ws os k).present j) (leb 1 (get_or (los c.cuttable) j 0) && (ltb (get_or (los c.cuttable) j 0) (wire_length ns ws j) && not (barred newest ns ws os j (get_or (los c.cuttable) j 0)))) (first.fits.lo_free j p cut))
+      rw (and_left ((stage_of newest ns ws os k).present j) (leb 1 (get_or (los c.cuttable) j 0) && (ltb (get_or (los c.cuttable) j 0) (wire_length ns ws j) && not (barred newest 0 ns ws os j (get_or (los c.cuttable) j 0)))) (first.fits.lo_free j p cut))
 
   is_sound : Sound net
   is_sound = sound_of_fits (stage_of newest ns ws os k) net (λ i. get_or c.root i 0) (λ i. get_or c.component i 0) is_formed first.fits
@@ -224,18 +226,27 @@ module _ {s : Stage} {limit : ℕ} {hi near : List ℕ} {cut_high : List Bool} {
       done (list_of s.nodes hi near cut_high) (count_of s.nodes near cut_high) p.smallest (omega arith) (e ∙ ap (answer none) q)
       (a ∙ ap (λ (x : ℕ). list_of s.nodes hi near cut_high ++ drop x out) (length-list_of hi near cut_high s.nodes))
 
--- over prepared obstacles, and over those that have that form as they are, the net is judged as it was given
-module _ (v : ℕ) (ns ws os : List ℕ) (k : ℕ) where
-  pub judged-prepared : {limit : ℕ} {out after : List ℕ} {r : Answer} → Judged (stage_of newest ns ws (prepared v os) k) limit out after r → Judged (stage_of v ns ws os k) limit out after r
+-- over prepared obstacles, and over those that have that form as they are, the net is judged as it was given, under the clearance
+module _ (v c : ℕ) (ns ws os : List ℕ) (nodes : Bytes ns) (bytes : Bytes os) (accepted : net_refusal v ns ws os ≡ none) where
+  agrees : (k : ℕ) → SameBarred (stage_of newest ns ws (prepared v c os) k) (λ i t. barred v c ns ws os i t)
+  agrees = prepared_agrees v c os ns ws (net-right v ns ws os accepted) nodes bytes
+
+  pub judged-prepared : (k : ℕ) {limit : ℕ} {out after : List ℕ} {r : Answer} → Judged (stage_of newest ns ws (prepared v c os) k) limit out after r → Judged (stage_under v c ns ws os k) limit out after r
   unfolding stage_of
-  judged-prepared (no_legal_set n e a) = no_legal_set (none_legal_same (prepared_agrees v os ns ws k) n) e a
-  judged-prepared (too_short list n m lt e a) = too_short list n (smallest-same (prepared_agrees v os ns ws k) m) lt e a
-  judged-prepared (done list n m le e a) = done list n (smallest-same (prepared_agrees v os ns ws k) m) le e a
+  judged-prepared k (no_legal_set n e a) = no_legal_set (none_legal_same (agrees k) n) e a
+  judged-prepared k (too_short list n m lt e a) = too_short list n (smallest-same (agrees k) m) lt e a
+  judged-prepared k (done list n m le e a) = done list n (smallest-same (agrees k) m) le e a
 
-  pub judged_as_is : {limit : ℕ} {out after : List ℕ} {r : Answer} → (v ≡ newest) ⊎ (prepared v os ≡ os) → Judged (stage_of newest ns ws os k) limit out after r → Judged (stage_of v ns ws os k) limit out after r
-  judged_as_is (inl e) j = rw e j
-  judged_as_is (inr e) j = judged-prepared (rw e j)
+  module _ (as_is : ((v ≡ newest) × (c ≡ 0)) ⊎ (prepared v c os ≡ os)) where
+    pub judged_as_is : (k : ℕ) {limit : ℕ} {out after : List ℕ} {r : Answer} → Judged (stage_of newest ns ws os k) limit out after r → Judged (stage_under v c ns ws os k) limit out after r
+    unfolding stage_of
+    judged_as_is k j = elim as_is [
+      | inl e ↦ rw (e.0, e.1) j
+      | inr e ↦ judged-prepared k (rw e j)
+    ]
 
-pub none_as_is : (v : ℕ) (ns ws os : List ℕ) → (v ≡ newest) ⊎ (prepared v os ≡ os) → net_refusal v ns ws os ≡ none → net_refusal newest ns ws os ≡ none
-none_as_is v ns ws os (inl e) n = rw e at n
-none_as_is v ns ws os (inr e) n = rw e at (prepared-none v os ns ws n)
+    pub none_as_is : net_refusal newest ns ws os ≡ none
+    none_as_is = elim as_is [
+      | inl e ↦ rw e.0 at accepted
+      | inr e ↦ rw e at (prepared-none v c os ns ws nodes bytes accepted)
+    ]

@@ -3,10 +3,11 @@
 #![tactic(auto)]
 
 ghost use Rattle.std.specs.Prelude.{◌≡◌};
+ghost use Rattle.laws.specs.Numbers.{Bytes};
 ghost use Rattle.net.specs.Layout.{newest};
 ghost use Rattle.net.specs.Refusal.{none, net_refusal};
-ghost use Rattle.net.specs.Stage.{stage_of};
-ghost use Rattle.net.specs.AcceptedNet.{stage_of_net};
+ghost use Rattle.net.specs.NoClearance.{stage_of};
+ghost use Rattle.net.specs.AcceptedNet.{stage_of_net, stage_of_net_under};
 ghost use Rattle.net.specs.Numbers.{answered};
 ghost use Rattle.repairs.specs.Promise.{Judged, Repaired};
 
@@ -23,23 +24,37 @@ use net::layout::{ENTRY_BYTES, MOST_NODES, NEWEST_VERSION};
 use net::refusal::Refusal;
 use obstacles::{PREPARED_BYTES, is_prepared, prepare};
 
-// Repair on a net file at a stage: 1, 2 to 11 and 20; then, on the net that is accepted, 15, 16, or the list.
-pub fn repair(stage: u32, limit: u32, file: &[u8], out: &mut [u8]) -> Result<usize, Refusal>
-    ensures { Repaired stage limit file.now out.old out.new (answered result) }
+// Repair on a net file at a stage under a clearance: 1, 2 to 11 and 20; then, on the net that is accepted, 15, 16, or the list.
+pub fn repair(
+    stage: u32,
+    limit: u32,
+    clearance: u16,
+    file: &[u8],
+    out: &mut [u8],
+) -> Result<usize, Refusal>
+    ensures { Repaired stage limit clearance file.now out.old out.new (answered result) }
 {
     let net = accepted_net(stage, file)?;
-    repair_version(net, stage as u8, u64::from(limit), out)
+    repair_under(net, stage as u8, u64::from(limit), clearance, out)
 }
 
-// Repair on a net of any version: the passes see its obstacles in the form of the newest one. For a net that has that form no room is cleared.
-fn repair_version(net: Net, stage: u8, limit: u64, out: &mut [u8]) -> Result<usize, Refusal>
-    ensures { Judged (stage_of_net net.entry stage) limit out.old out.new (answered result) }
+// Repair on a net of any version under a clearance: the passes see its obstacles grown, in the form of the newest version. For a net that has that form no room
+// is cleared.
+fn repair_under(
+    net: Net,
+    stage: u8,
+    limit: u64,
+    clearance: u16,
+    out: &mut [u8],
+) -> Result<usize, Refusal>
+    requires { Bytes net.nodes.now × Bytes net.obstacles.now }
+    ensures { Judged (stage_of_net_under net.entry clearance stage) limit out.old out.new (answered result) }
 {
-    if is_prepared(net.version, net.obstacles) {
+    if is_prepared(net.version, clearance, net.obstacles) {
         return repair_prepared(net, net.obstacles, stage, limit, out);
     }
     let mut room = [0; PREPARED_BYTES];
-    let end = prepare(net.version, net.obstacles, &mut room);
+    let end = prepare(net.version, clearance, net.obstacles, &mut room);
     repair_prepared(net, &room[..end], stage, limit, out)
 }
 

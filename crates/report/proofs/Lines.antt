@@ -41,21 +41,21 @@ either_lines : (q : Verdict) (count : ℕ) (out records rest : List ℕ) → len
 either_lines q count out records rest whole true m = refused_lines q count out m
 either_lines q count out records rest whole false m = done_lines q count records rest m whole
 
-pub reported_lines : (stage limit : ℕ) (file none out after : List ℕ) (r : Answer) → none ≡ [] → length out ≡ lent_bytes → r ≡ report_answer stage file none (length out) →
-    after ≡ report_buffer stage limit file none out → answer_lines r after ≡ call_lines stage limit file
+pub reported_lines : (stage limit : ℕ) (file none out after : List ℕ) (r : Answer) → none ≡ [] → length out ≡ lent_bytes → r ≡ report_answer stage 0 file none (length out) →
+    after ≡ report_buffer stage limit 0 file none out → answer_lines r after ≡ call_lines stage limit file
 unfolding report_answer report_buffer pieces_buffer
 reported_lines stage limit file none out after r nothing lent e k =
-    let q = report_refusal stage file [] lent_bytes in
-    let count = piece_count (net_at file stage) [] in
-    let records = report_of (net_at file stage) limit (set_of []) in
-    let whole = report_length (net_at file stage) limit (set_of []) in
+    let q = report_refusal stage 0 file [] lent_bytes in
+    let count = piece_count (net_at file stage 0) [] in
+    let records = report_of (net_at file stage 0) limit (set_of []) in
+    let whole = report_length (net_at file stage 0) limit (set_of []) in
     rw (e, k, lent, nothing) (either_lines q count out records (drop (record_bytes * count) out) whole (met q) refl)
 
 -- the records lie in the buffer
-pub records-room : (stage : ℕ) (file list : List ℕ) (lent : ℕ) (r : Result ℕ Refusal) → answered r ≡ report_answer stage file list lent →
+pub records-room : (stage clearance : ℕ) (file list : List ℕ) (lent : ℕ) (r : Result ℕ Refusal) → answered r ≡ report_answer stage clearance file list lent →
     IfOk r (λ n. record_bytes * n ≤ lent)
-records-room stage file list lent (Ok n) e = record_room stage file list lent (answered (Ok n)) e refl
-records-room stage file list lent (Err refusal) e = tt
+records-room stage clearance file list lent (Ok n) e = record_room stage clearance file list lent (answered (Ok n)) e refl
+records-room stage clearance file list lent (Err refusal) e = tt
 
 -- of a reader whose bytes are known
 pub read_lines : (known a b : Option (List ℕ)) (text lines : List ℕ) → IfSome known (λ xs. text ≡ take most_input xs) → lines ≡ printed text → Appends a b lines →

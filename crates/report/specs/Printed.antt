@@ -25,9 +25,9 @@ answer_lines a out = cond (eqb a.number 0) (record_lines (take (record_bytes * a
 -- the lines for a call without jumpers: the refusal met, or the records of all pieces
 abbrev pub call_lines : ℕ → ℕ → List ℕ → List ℕ
 call_lines stage limit file =
-    cond (met (report_refusal stage file [] lent_bytes))
-    (refusal_line (report_refusal stage file [] lent_bytes).number (report_refusal stage file [] lent_bytes).place)
-    (record_lines (report_of (net_at file stage) limit (set_of [])))
+    cond (met (report_refusal stage 0 file [] lent_bytes))
+    (refusal_line (report_refusal stage 0 file [] lent_bytes).number (report_refusal stage 0 file [] lent_bytes).place)
+    (record_lines (report_of (net_at file stage 0) limit (set_of [])))
 
 -- the lines for an input
 abbrev pub printed : List ℕ → List ℕ

@@ -34,7 +34,7 @@ fn run<R: Read, W: Write>(from: &mut R, to: &mut W) -> io::Result<()>
     let limit = console::limit_of(text);
     let file = console::file_of(text);
     let mut out = [0u8; RECORD_BYTES * MOST_NODES];
-    let answer = antenna::antenna_report(stage, limit, file, &[], &mut out);
+    let answer = antenna::antenna_report(stage, limit, 0, file, &[], &mut out);
     print_answer(to, answer, &out)
 }
 

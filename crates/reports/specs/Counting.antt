@@ -7,7 +7,7 @@ use Rattle.laws.specs.Sum.{χ, sum}
 use Rattle.laws.specs.Sums.{sum_ap}
 use Rattle.laws.specs.Masks.{sum_low}
 use Rattle.net.specs.Net.{node_count, wire_layer}
-use Rattle.net.specs.Stage.{stage_of}
+use Rattle.net.specs.NoClearance.{stage_of}
 use Rattle.pieces.specs.JumperList.{entry_count, set_of}
 use Rattle.pieces.specs.Listed.{number_of_names}
 use Rattle.reports.specs.Promise.{piece_count}

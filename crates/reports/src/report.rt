@@ -16,16 +16,17 @@ use records::pass::write_records;
 pub fn report(
     stage: u32,
     limit: u32,
+    clearance: u16,
     file: &[u8],
     jumpers: &[u8],
     out: &mut [u8],
 ) -> Result<usize, Refusal>
-    ensures { (answered result ≡ report_answer stage file.now jumpers.now (length out.old))
-        × (out.new ≡ report_buffer stage limit file.now jumpers.now out.old) }
+    ensures { (answered result ≡ report_answer stage clearance file.now jumpers.now (length out.old))
+        × (out.new ≡ report_buffer stage limit clearance file.now jumpers.now out.old) }
 {
     let net = accepted_net(stage, file)?;
     let k = stage as u8;
-    list_refusal(net, k, jumpers)?;
+    list_refusal(net, k, clearance, jumpers)?;
     let with_jumpers = NetWithJumpers {
         stage: k,
         nodes: net.nodes,

@@ -1,7 +1,8 @@
 -- Document 01, "Small nets": the cases marked P, as one table. Shown.antt proves it.
 -- Assumes nothing.
 use Rattle.std.specs.Prelude.{ℕ, ◌≤◌, ◌≡◌, true, ◌&&◌, ◌||◌, List, [], ◌∷◌, eqb}
-use Rattle.net.specs.Stage.{Stage, stage_of}
+use Rattle.net.specs.Stage.{Stage}
+use Rattle.net.specs.NoClearance.{stage_of}
 use Rattle.pieces.specs.Piece.{Points}
 use Rattle.pieces.specs.Legal.{Legal, NoneLegal, size}
 use Rattle.pieces.specs.Size.{single}

@@ -2,8 +2,9 @@
 -- Assumes nothing.
 use Rattle.std.specs.Prelude.{ℕ, ◌≡◌, refl, List, [], ◌∷◌, ◌++◌}
 use Rattle.laws.specs.Sum.{sum, any, lowest, highest}
-use Rattle.net.specs.Net.{wire_length, point_x, point_y, holds, barred}
-use Rattle.net.specs.Stage.{Stage, stage_of}
+use Rattle.net.specs.Net.{wire_length, point_x, point_y, near, barred}
+use Rattle.net.specs.Stage.{Stage}
+use Rattle.net.specs.NoClearance.{stage_of}
 use Rattle.net.specs.Formed.{Formed}
 use Rattle.net.specs.Refusal.{none, net_refusal, sections_refusal, node_refusal, wire_refusal, obstacle_refusal, first_of}
 use Rattle.net.specs.Accepted.{net-right, formed}
@@ -40,7 +41,7 @@ formed-layered : (version : ℕ) (os : List ℕ) → net_refusal version (nodes_
 formed-layered version os h = formed version (nodes_a 1) (wires_a 2) os (net-right version (nodes_a 1) (wires_a 2) os h) 2
 
 pub layered_nets : LayeredNets
-unfolding net_refusal sections_refusal node_refusal wire_refusal obstacle_refusal first_of somewhere free_at barred point_x point_y holds harms harmful_at any stage_of lowest_node follow joins cut_at node_weight wire_adds first_jumper last_jumper lowest highest wire_length sum size
+unfolding net_refusal sections_refusal node_refusal wire_refusal obstacle_refusal first_of somewhere free_at barred point_x point_y near harms harmful_at any stage_of lowest_node follow joins cut_at node_weight wire_adds first_jumper last_jumper lowest highest wire_length sum size
 layered_nets =
     let below = layered_a 2 (layered_bar 6 7 1) in
     let below-formed : Formed below = formed-layered 2 (layered_bar 6 7 1) refl in

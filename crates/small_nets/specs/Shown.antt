@@ -6,8 +6,9 @@ use Rattle.std.proofs.Math.Path.{fun_ext}
 use native.Mathlib.Omega.{arith}
 use Rattle.laws.specs.Sum.{χ, sum, any, lowest, highest}
 use Rattle.laws.specs.Sums.{by, no_both, and_intro, not_true_false, term-≤, χ-yes}
-use Rattle.net.specs.Net.{wire_length, point_x, point_y, holds, barred}
-use Rattle.net.specs.Stage.{Stage, stage_of}
+use Rattle.net.specs.Net.{wire_length, point_x, point_y, near, barred}
+use Rattle.net.specs.Stage.{Stage}
+use Rattle.net.specs.NoClearance.{stage_of}
 use Rattle.net.specs.Formed.{Formed}
 use Rattle.net.specs.Refusal.{none, net_refusal, sections_refusal, node_refusal, wire_refusal, obstacle_refusal, first_of}
 use Rattle.net.specs.Accepted.{net-right, formed}
@@ -95,7 +96,7 @@ formed-A : (flags layer : ℕ) (os : List ℕ) → net_refusal 1 (nodes_a flags)
 formed-A flags layer os h = formed 1 (nodes_a flags) (wires_a layer) os (net-right 1 (nodes_a flags) (wires_a layer) os h) 1
 
 pub small_nets : SmallNets
-unfolding net_refusal sections_refusal node_refusal wire_refusal obstacle_refusal first_of somewhere free_at barred point_x point_y holds harms harmful_at any stage_of lowest_node follow joins cut_at node_weight wire_adds first_jumper last_jumper lowest highest wire_length sum size
+unfolding net_refusal sections_refusal node_refusal wire_refusal obstacle_refusal first_of somewhere free_at barred point_x point_y near harms harmful_at any stage_of lowest_node follow joins cut_at node_weight wire_adds first_jumper last_jumper lowest highest wire_length sum size
 small_nets =
     let A-formed : Formed A = formed-A 1 1 [] refl in
     let six-formed : Formed (net_a 1 1 (bar 6 6)) = formed-A 1 1 (bar 6 6) refl in

@@ -6,7 +6,7 @@ use antenna_tests::suite::fuzz::{mutate, one, seed, Made};
 use std::collections::HashMap;
 use std::time::{Duration, Instant};
 
-/// The kind of an answer: call, number, version if it is not 1, and something of place and count.
+/// The kind of an answer: call, number, version if it is not 1, whether there is a clearance, and something of place and count.
 fn name(made: &Made) -> String {
     let (call, answer) = (made.call, made.answer);
     let version = match made.version {
@@ -14,8 +14,12 @@ fn name(made: &Made) -> String {
         2 => "version-2-",
         _ => "version-other-",
     };
+    let clearance = match made.clearance {
+        0 => "",
+        _ => "clearance-",
+    };
     let place = answer.place.min(3) + 4 * answer.count.min(3);
-    format!("{call}-{}-{version}{place}", answer.number)
+    format!("{call}-{}-{version}{clearance}{place}", answer.number)
 }
 
 fn main() {

@@ -1,5 +1,6 @@
 //! Nets with jumpers whose pieces change with their last wires: flags, layers or weight that come late.
 
+use super::clearance::clearance;
 use super::{net, stage, version, Shape};
 use crate::random::Random;
 use crate::reference::net::Net;
@@ -11,6 +12,7 @@ pub struct Case {
     pub net: Net,
     pub stage: u32,
     pub limit: u32,
+    pub clearance: u16,
     pub jumpers: Vec<Point>,
 }
 
@@ -60,9 +62,9 @@ fn change_flags(random: &mut Random, net: &mut Net) {
 }
 
 /// One wire in three has jumpers: one, some or at all points where they may stand.
-fn jumpers(random: &mut Random, net: &Net, stage: u32) -> Vec<Point> {
+fn jumpers(random: &mut Random, net: &Net, stage: u32, clearance: u16) -> Vec<Point> {
     let mut jumpers = Vec::new();
-    for of_wire in free_points(net, stage).chunk_by(|a, b| a.0 == b.0) {
+    for of_wire in free_points(net, stage, clearance).chunk_by(|a, b| a.0 == b.0) {
         if random.chance(1, 3) {
             let few = random.range(1, of_wire.len() as u64);
             let every = random.pick(&[1, few, of_wire.len() as u64]) as usize;
@@ -91,11 +93,13 @@ pub fn late_case(random: &mut Random, shape: Shape) -> Case {
         change_flags(random, &mut net);
     }
     let stage = stage(random, &net);
+    let clearance = clearance(random, &net);
     let mut case = Case {
-        jumpers: jumpers(random, &net, stage),
+        jumpers: jumpers(random, &net, stage, clearance),
         net,
         stage,
         limit: 0,
+        clearance,
     };
     let first = case.first(random.range(1, shape.nodes as u64) as usize);
     let pieces = pieces(&first.net, stage, &first.jumpers);

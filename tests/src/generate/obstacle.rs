@@ -33,7 +33,33 @@ fn layer_near(random: &mut Random, layer: u8) -> u8 {
     }
 }
 
-/// An obstacle over an end, the middle or the whole of a wire, or somewhere near; in version 2 its layer is often at the border of that wire's.
+/// The obstacle moved a few steps, held inside the coordinates.
+fn move_aside(random: &mut Random, o: &mut Obstacle) {
+    let by = random.range(1, 5) as u16;
+    match random.below(4) {
+        0 => (o.x1, o.x2) = (o.x1.saturating_sub(by), o.x2.saturating_sub(by)),
+        1 => (o.x1, o.x2) = (o.x1.saturating_add(by), o.x2.saturating_add(by)),
+        2 => (o.y1, o.y2) = (o.y1.saturating_sub(by), o.y2.saturating_sub(by)),
+        _ => (o.y1, o.y2) = (o.y1.saturating_add(by), o.y2.saturating_add(by)),
+    }
+}
+
+/// The obstacle stretched to an end of the coordinates, or moved there.
+fn move_to_an_end(random: &mut Random, o: &mut Obstacle) {
+    let (low, high) = match random.below(2) {
+        0 => (&mut o.x1, &mut o.x2),
+        _ => (&mut o.y1, &mut o.y2),
+    };
+    match random.below(4) {
+        0 => *low = 0,
+        1 => *high = 65535,
+        2 => (*low, *high) = (0, 0),
+        _ => (*low, *high) = (65535, 65535),
+    }
+}
+
+/// An obstacle over an end, the middle or the whole of a wire, or somewhere near, or at an end of the coordinates; in version 2 its
+/// layer is often at the border of that wire's.
 pub fn obstacle(random: &mut Random, net: &Net) -> Obstacle {
     let count = net.nodes.len() as u64;
     let (over, [a, b]) = if count > 1 {
@@ -48,7 +74,7 @@ pub fn obstacle(random: &mut Random, net: &Net) -> Obstacle {
     } else {
         0
     };
-    Obstacle {
+    let mut obstacle = Obstacle {
         x1: a.0.min(b.0).saturating_sub(wider),
         y1: a.1.min(b.1).saturating_sub(wider),
         x2: a.0.max(b.0).saturating_add(wider),
@@ -57,7 +83,13 @@ pub fn obstacle(random: &mut Random, net: &Net) -> Obstacle {
             1 => 16,
             _ => layer_near(random, over),
         },
+    };
+    match random.below(20) {
+        0..=2 => move_aside(random, &mut obstacle),
+        3 => move_to_an_end(random, &mut obstacle),
+        _ => {}
     }
+    obstacle
 }
 
 /// The net with each obstacle on another layer; on layer 0 it bars no point.

@@ -46,6 +46,13 @@ pub fn length(node: &[u8; 5], parent: &[u8; 5]) -> u32 {
     (across + up).unsigned_abs()
 }
 
+impl Wire {
+    fn place(&self, t: u32) -> (u16, u16) {
+        let along = |from, step| (from + step * t as i32) as u16;
+        (along(self.x, self.dx), along(self.y, self.dy))
+    }
+}
+
 fn corners<const WIDTH: usize>(obstacle: &[u8; WIDTH]) -> [u16; 4] {
     [0, 2, 4, 6].map(|k| u16::from_le_bytes([obstacle[k], obstacle[k + 1]]))
 }
@@ -53,6 +60,30 @@ fn corners<const WIDTH: usize>(obstacle: &[u8; WIDTH]) -> [u16; 4] {
 /// The layer, if the obstacle has one.
 fn layer<const WIDTH: usize>(obstacle: &[u8; WIDTH]) -> Option<u8> {
     obstacle.get(8).copied()
+}
+
+/// The obstacle with its layer, grown on all sides up to the ends of the coordinates.
+fn grown<const WIDTH: usize>(obstacle: &[u8; WIDTH], clearance: u16) -> [u8; 9] {
+    let [x1, y1, x2, y2] = corners(obstacle);
+    let [a, b] = [x1, y1].map(|low| low.saturating_sub(clearance).to_le_bytes());
+    let [c, d] = [x2, y2].map(|high| high.saturating_add(clearance).to_le_bytes());
+    let layer = layer(obstacle).unwrap_or(16);
+    [a[0], a[1], b[0], b[1], c[0], c[1], d[0], d[1], layer]
+}
+
+impl<'a, const WIDTH: usize> Net<'a, WIDTH> {
+    /// The net with its obstacles grown, which fill the front of the table.
+    pub fn grown(self, clearance: u16, table: &'a mut [[u8; 9]]) -> Net<'a, 9> {
+        let table = &mut table[..self.obstacles.len()];
+        for (place, obstacle) in table.iter_mut().zip(self.obstacles) {
+            *place = grown(obstacle, clearance);
+        }
+        Net {
+            nodes: self.nodes,
+            wires: self.wires,
+            obstacles: table,
+        }
+    }
 }
 
 impl<const WIDTH: usize> Net<'_, WIDTH> {
@@ -85,20 +116,31 @@ impl<const WIDTH: usize> Net<'_, WIDTH> {
         }
     }
 
+    /// An obstacle that counts for the wire is at most the clearance from position t, across and up.
+    pub fn barred(&self, wire: &Wire, t: u32, clearance: u16) -> bool {
+        let clearance = i32::from(clearance);
+        let (across, up) = (wire.dx * t as i32, wire.dy * t as i32);
+        // t comes last: a loop over a wire's points adds the clearance once
+        let (west, east) = (wire.x - clearance + across, wire.x + clearance + across);
+        let (south, north) = (wire.y - clearance + up, wire.y + clearance + up);
+        self.obstacles.iter().any(|obstacle| {
+            let [x1, y1, x2, y2] = corners(obstacle).map(i32::from);
+            let counts = layer(obstacle).is_none_or(|layer| wire.layer <= layer);
+            x1 <= east && west <= x2 && y1 <= north && south <= y2 && counts
+        })
+    }
+}
+
+/// The points of wires where the obstacles have been grown.
+impl Net<'_, 9> {
     /// The first obstacle that holds position t of a wire and counts for it.
     fn holding(&self, wire: &Wire, t: u32) -> Option<[u16; 4]> {
-        let x = (wire.x + wire.dx * t as i32) as u16;
-        let y = (wire.y + wire.dy * t as i32) as u16;
-        let holds = |obstacle: &&[u8; WIDTH]| {
+        let (x, y) = wire.place(t);
+        let holds = |obstacle: &&[u8; 9]| {
             let [x1, y1, x2, y2] = corners(obstacle);
-            let counts = layer(obstacle).is_none_or(|layer| wire.layer <= layer);
-            x1 <= x && x <= x2 && y1 <= y && y <= y2 && counts
+            x1 <= x && x <= x2 && y1 <= y && y <= y2 && wire.layer <= obstacle[8]
         };
         self.obstacles.iter().find(holds).map(corners)
-    }
-
-    pub fn barred(&self, wire: &Wire, t: u32) -> bool {
-        self.holding(wire, t).is_some()
     }
 
     /// The highest position at or below t that is not barred, or 0.

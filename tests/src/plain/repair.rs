@@ -1,4 +1,4 @@
-//! A smallest jumper set: one pass down the node numbers and one pass up.
+//! A smallest jumper set: one pass down the node numbers and one pass up, where each obstacle has been grown by the clearance.
 //!
 //! Wires without a point that may be cut hold their nodes together in a cluster, named by its lowest node, its root. A node whose
 //! wire has such a point is a branch of the cluster its parent is in, its host. All wire of a net weighs less than 2^32.
@@ -28,7 +28,7 @@ impl Clusters {
     }
 }
 
-fn clusters<const WIDTH: usize>(net: Net<WIDTH>, stage: u32) -> Clusters {
+fn clusters(net: Net<9>, stage: u32) -> Clusters {
     let mut c = Clusters {
         low: [0; MOST],
         high: [0; MOST],
@@ -97,13 +97,9 @@ impl Counts {
     };
 }
 
-/// The pass down, into empty counts; none if no set is legal.
-fn count_pass<const WIDTH: usize>(
-    net: Net<WIDTH>,
-    c: &Clusters,
-    limit: u32,
-    k: &mut Counts,
-) -> Option<()> {
+/// The pass down, into empty counts; none if no set is legal. A function of its own, so that its loops keep in registers what they need.
+#[inline(never)]
+fn count_pass(net: Net<9>, c: &Clusters, limit: u32, k: &mut Counts) -> Option<()> {
     let n = net.count();
     let hosts = &c.host[..n];
     for r in (0..n).rev() {
@@ -184,23 +180,29 @@ fn count_pass<const WIDTH: usize>(
     Some(())
 }
 
-pub fn repair(stage: u32, limit: u32, file: &[u8], out: &mut [u8]) -> Answer {
+pub fn repair(stage: u32, limit: u32, clearance: u16, file: &[u8], out: &mut [u8]) -> Answer {
     if stage == 0 || stage > 16 {
         return Answer::refused(1, 0);
     }
-    match net_of(file) {
-        Ok(Versioned::One(net)) => repair_of(net, stage, limit, out),
-        Ok(Versioned::Two(net)) => repair_of(net, stage, limit, out),
-        Err(refusal) => refusal,
-    }
+    // for obstacles that the file has without a layer, or smaller than they count
+    let mut table;
+    let net = match net_of(file) {
+        Ok(Versioned::One(net)) if net.obstacles.is_empty() => net.grown(0, &mut []),
+        Ok(Versioned::One(net)) => {
+            table = [[0; 9]; MOST];
+            net.grown(clearance, &mut table)
+        }
+        Ok(Versioned::Two(net)) if clearance == 0 || net.obstacles.is_empty() => net,
+        Ok(Versioned::Two(net)) => {
+            table = [[0; 9]; MOST];
+            net.grown(clearance, &mut table)
+        }
+        Err(refusal) => return refusal,
+    };
+    repair_of(net, stage, limit, out)
 }
 
-fn repair_of<const WIDTH: usize>(
-    net: Net<WIDTH>,
-    stage: u32,
-    limit: u32,
-    out: &mut [u8],
-) -> Answer {
+fn repair_of(net: Net<9>, stage: u32, limit: u32, out: &mut [u8]) -> Answer {
     let c = clusters(net, stage);
     let mut k = Counts::EMPTY;
     if count_pass(net, &c, limit, &mut k).is_none() {

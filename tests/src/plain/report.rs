@@ -22,6 +22,7 @@ fn first_wire(list: &[Entry]) -> usize {
 fn check_list<const WIDTH: usize>(
     net: Net<WIDTH>,
     stage: u32,
+    clearance: u16,
     list: &[Entry],
 ) -> Result<(), Answer> {
     let (mut before, mut k) = (0, 0);
@@ -48,7 +49,7 @@ fn check_list<const WIDTH: usize>(
             if t >= wire.length {
                 return Err(Answer::refused(13, k));
             }
-            if net.barred(&wire, t) {
+            if net.barred(&wire, t, clearance) {
                 return Err(Answer::refused(14, k));
             }
             least = t + 1;
@@ -105,13 +106,20 @@ fn stretches(entries: &[Entry], factor: u32, layers: u32, out: &mut [Record]) {
     }
 }
 
-pub fn report(stage: u32, limit: u32, file: &[u8], list: &[u8], out: &mut [u8]) -> Answer {
+pub fn report(
+    stage: u32,
+    limit: u32,
+    clearance: u16,
+    file: &[u8],
+    list: &[u8],
+    out: &mut [u8],
+) -> Answer {
     if stage == 0 || stage > 16 {
         return Answer::refused(1, 0);
     }
     match net_of(file) {
-        Ok(Versioned::One(net)) => report_of(net, stage, limit, list, out),
-        Ok(Versioned::Two(net)) => report_of(net, stage, limit, list, out),
+        Ok(Versioned::One(net)) => report_of(net, stage, limit, clearance, list, out),
+        Ok(Versioned::Two(net)) => report_of(net, stage, limit, clearance, list, out),
         Err(refusal) => refusal,
     }
 }
@@ -120,6 +128,7 @@ fn report_of<const WIDTH: usize>(
     net: Net<WIDTH>,
     stage: u32,
     limit: u32,
+    clearance: u16,
     list: &[u8],
     out: &mut [u8],
 ) -> Answer {
@@ -127,7 +136,7 @@ fn report_of<const WIDTH: usize>(
     if !rest.is_empty() {
         return Answer::refused(12, 0);
     }
-    if let Err(refusal) = check_list(net, stage, list) {
+    if let Err(refusal) = check_list(net, stage, clearance, list) {
         return refusal;
     }
     let stage = stage as u8;

@@ -1,4 +1,4 @@
-//! Document 01, routes from DEF and obstacles with a layer once more, written from their words alone and as plainly as possible.
+//! Document 01, routes from DEF, obstacles with a layer and the clearance round them once more, written from their words alone and as plainly as possible.
 
 pub mod def;
 pub mod net;

@@ -25,6 +25,12 @@ pub struct Obstacle {
     pub layer: u8,
 }
 
+/// How far a coordinate lies outside a stretch; 0 inside it.
+pub fn outside(low: u16, high: u16, at: u16) -> i32 {
+    let [low, high, at] = [low, high, at].map(i32::from);
+    (low - at).max(at - high).max(0)
+}
+
 /// The records of a net; they need not make an accepted one.
 #[derive(Clone, Debug, PartialEq, Eq)]
 pub struct Net {
@@ -92,12 +98,14 @@ impl Net {
         (along(a.x, b.x), along(a.y, b.y))
     }
 
-    /// Some obstacle holds the point, and the wire's layer is at most the obstacle's.
-    pub fn barred(&self, i: usize, t: usize) -> bool {
+    /// The point lies at most the clearance outside some obstacle in x, and at most that far outside it in y, and the wire's layer is at
+    /// most the obstacle's.
+    pub fn barred(&self, i: usize, t: usize, clearance: u16) -> bool {
         let (x, y) = self.point(i, t);
-        let holds = |o: &Obstacle| o.x1 <= x && x <= o.x2 && o.y1 <= y && y <= o.y2;
+        let most = i32::from(clearance);
+        let near = |o: &Obstacle| outside(o.x1, o.x2, x) <= most && outside(o.y1, o.y2, y) <= most;
         let mut obstacles = self.obstacles.iter();
-        obstacles.any(|o| holds(o) && self.wire(i).layer <= o.layer)
+        obstacles.any(|o| near(o) && self.wire(i).layer <= o.layer)
     }
 
     /// The net of its first nodes, with their wires and all obstacles.

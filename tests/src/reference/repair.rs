@@ -14,9 +14,9 @@ pub struct Judge {
 }
 
 impl Judge {
-    pub fn new(net: &Net, stage: u32) -> Judge {
+    pub fn new(net: &Net, stage: u32, clearance: u16) -> Judge {
         let elements = Elements::new(net, stage);
-        let points = free_points(net, stage);
+        let points = free_points(net, stage, clearance);
         let mut groups = joined(net, stage, &elements, |point| {
             points.binary_search(&point).is_ok()
         });
@@ -135,8 +135,8 @@ impl Judge {
 }
 
 /// The least number of jumpers of a legal set, or none if no set is legal.
-pub fn least(net: &Net, stage: u32, limit: u32) -> Option<usize> {
-    let judge = Judge::new(net, stage);
+pub fn least(net: &Net, stage: u32, limit: u32, clearance: u16) -> Option<usize> {
+    let judge = Judge::new(net, stage, clearance);
     judge
         .smallest(limit, false)
         .first()
@@ -144,8 +144,8 @@ pub fn least(net: &Net, stage: u32, limit: u32) -> Option<usize> {
 }
 
 /// Every smallest legal set, each rising.
-pub fn smallest_sets(net: &Net, stage: u32, limit: u32) -> Vec<Vec<Point>> {
-    let judge = Judge::new(net, stage);
+pub fn smallest_sets(net: &Net, stage: u32, limit: u32, clearance: u16) -> Vec<Vec<Point>> {
+    let judge = Judge::new(net, stage, clearance);
     judge
         .smallest(limit, true)
         .into_iter()

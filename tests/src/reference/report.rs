@@ -169,7 +169,12 @@ pub fn pieces(net: &Net, stage: u32, jumpers: &[Point]) -> Vec<Piece> {
 }
 
 /// The points of a jumper list, after refusals 12 to 14.
-pub fn jumper_list(net: &Net, stage: u32, list: &[u8]) -> Result<Vec<Point>, Answer> {
+pub fn jumper_list(
+    net: &Net,
+    stage: u32,
+    clearance: u16,
+    list: &[u8],
+) -> Result<Vec<Point>, Answer> {
     if list.len() % 3 != 0 {
         return Err(Answer::refused(12, 0));
     }
@@ -185,7 +190,7 @@ pub fn jumper_list(net: &Net, stage: u32, list: &[u8]) -> Result<Vec<Point>, Ans
         if !inside {
             return Err(Answer::refused(13, k));
         }
-        if net.barred(i, t) {
+        if net.barred(i, t, clearance) {
             return Err(Answer::refused(14, k));
         }
         points.push(point);
@@ -214,12 +219,13 @@ pub fn net_at(stage: u32, file: &[u8]) -> Result<Net, Answer> {
 fn try_report(
     stage: u32,
     limit: u32,
+    clearance: u16,
     file: &[u8],
     list: &[u8],
     out: &mut [u8],
 ) -> Result<usize, Answer> {
     let net = net_at(stage, file)?;
-    let jumpers = jumper_list(&net, stage, list)?;
+    let jumpers = jumper_list(&net, stage, clearance, list)?;
     let pieces = pieces(&net, stage, &jumpers);
     let needed = 12 * pieces.len();
     if needed > out.len() {
@@ -232,41 +238,50 @@ fn try_report(
 }
 
 /// The report; the count is that of the records.
-pub fn report(stage: u32, limit: u32, file: &[u8], list: &[u8], out: &mut [u8]) -> Answer {
-    match try_report(stage, limit, file, list, out) {
+pub fn report(
+    stage: u32,
+    limit: u32,
+    clearance: u16,
+    file: &[u8],
+    list: &[u8],
+    out: &mut [u8],
+) -> Answer {
+    match try_report(stage, limit, clearance, file, list, out) {
         Ok(count) => Answer::done(count),
         Err(refusal) => refusal,
     }
 }
 
 /// A jumper set is legal: its points are distinct, none is barred, all lie on present wires, and no piece is harmful.
-pub fn legal(net: &Net, stage: u32, limit: u32, jumpers: &[Point]) -> bool {
+pub fn legal(net: &Net, stage: u32, limit: u32, clearance: u16, jumpers: &[Point]) -> bool {
     let distinct = (1..jumpers.len()).all(|k| !jumpers[..k].contains(&jumpers[k]));
     distinct
-        && jumpers.iter().all(|&(i, t)| free(net, stage, i, t))
+        && jumpers
+            .iter()
+            .all(|&(i, t)| free(net, stage, clearance, i, t))
         && pieces(net, stage, jumpers)
             .iter()
             .all(|p| !p.harmful(limit))
 }
 
 /// A jumper may stand at position t of wire i.
-pub fn free(net: &Net, stage: u32, i: usize, t: usize) -> bool {
+pub fn free(net: &Net, stage: u32, clearance: u16, i: usize, t: usize) -> bool {
     i >= 1
         && i < net.nodes.len()
         && net.present(stage, i)
         && t >= 1
         && t < net.length(i)
-        && !net.barred(i, t)
+        && !net.barred(i, t, clearance)
 }
 
 /// All points where a jumper may stand, rising.
-pub fn free_points(net: &Net, stage: u32) -> Vec<Point> {
+pub fn free_points(net: &Net, stage: u32, clearance: u16) -> Vec<Point> {
     let mut points = Vec::new();
     for i in 1..net.nodes.len() {
         if net.present(stage, i) {
             points.extend(
                 (1..net.length(i))
-                    .filter(|&t| !net.barred(i, t))
+                    .filter(|&t| !net.barred(i, t, clearance))
                     .map(|t| (i, t)),
             );
         }

@@ -59,11 +59,11 @@ fn join(parent: &Open, branch: &Open, limit: u64) -> Open {
 }
 
 /// What wire i, with 0, 1 or 2 jumpers, adds to the piece open at the parent.
-fn up_the_wire(net: &Net, i: usize, below: &Open, limit: u64) -> Open {
+fn up_the_wire(net: &Net, i: usize, below: &Open, limit: u64, clearance: u16) -> Open {
     let (length, factor) = (net.length(i), net.factor(i));
     let weight = length as u64 * factor;
     let free: Vec<u64> = (1..length)
-        .filter(|&t| !net.barred(i, t))
+        .filter(|&t| !net.barred(i, t, clearance))
         .map(|t| t as u64)
         .collect();
     let jumpers = free.len().min(2);
@@ -95,7 +95,7 @@ fn up_the_wire(net: &Net, i: usize, below: &Open, limit: u64) -> Open {
 }
 
 /// The least number of jumpers of a legal set, or none if no set is legal.
-pub fn least(net: &Net, stage: u32, limit: u32) -> Option<usize> {
+pub fn least(net: &Net, stage: u32, limit: u32, clearance: u16) -> Option<usize> {
     let limit = u64::from(limit);
     let count = net.nodes.len();
     let mut component = vec![0; count];
@@ -129,7 +129,7 @@ pub fn least(net: &Net, stage: u32, limit: u32) -> Option<usize> {
                 .find(|&c| open[i].gated[c] != NONE || open[i].plain[c] != NONE);
             total += fewest?;
         } else {
-            let branch = up_the_wire(net, i, &open[i], limit);
+            let branch = up_the_wire(net, i, &open[i], limit, clearance);
             let parent = net.parent(i);
             open[parent] = join(&open[parent], &branch, limit);
         }

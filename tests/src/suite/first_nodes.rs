@@ -32,13 +32,28 @@ fn added(case: &Case, i: usize) -> (u64, u8, u16) {
 /// The records of the report, in a buffer of just their length, of one byte less and of some more.
 fn records(report: Report, case: &Case) -> Vec<Record> {
     let (file, list) = (case.net.file(), case.list());
-    let needed = needed(case.stage, &file, &list);
+    let needed = needed(case.stage, case.clearance, &file, &list);
     for (lent, number) in [(needed, 0), (needed - 1, 16), (needed + 17, 0)] {
-        let answer = compare_report(report, case.stage, case.limit, &file, &list, lent);
+        let answer = compare_report(
+            report,
+            case.stage,
+            case.limit,
+            case.clearance,
+            &file,
+            &list,
+            lent,
+        );
         assert_eq!(answer.number, number);
     }
     let mut out = vec![0; needed];
-    report(case.stage, case.limit, &file, &list, &mut out);
+    report(
+        case.stage,
+        case.limit,
+        case.clearance,
+        &file,
+        &list,
+        &mut out,
+    );
     out.as_chunks().0.to_vec()
 }
 
@@ -179,6 +194,8 @@ pub fn longest_list(report: Report) {
             net: net.clone(),
             stage: 16,
             limit,
+            // without an obstacle none bars a point
+            clearance: 65535,
             jumpers: jumpers.clone(),
         };
         every_number_of_nodes(report, &case);
@@ -195,8 +212,8 @@ pub fn long_lists(report: Report) {
             longest: 1000,
             obstacles: 2,
         };
-        let case = late_case(&mut random, shape);
-        assert!(case.jumpers.len() > 2000, "{}", case.jumpers.len());
+        let mut cases = std::iter::repeat_with(|| late_case(&mut random, shape));
+        let case = cases.find(|case| case.jumpers.len() > 2000).unwrap();
         every_number_of_nodes(report, &case);
     }
 }

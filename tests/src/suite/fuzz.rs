@@ -6,6 +6,7 @@ use super::def::compare as compare_def;
 use super::met::version_of;
 use super::repair::compare;
 use super::report::compare_report;
+use crate::generate::clearance::clearance;
 use crate::generate::def::{any_case, Case};
 use crate::generate::late::{late_case, late_shape};
 use crate::generate::{any_file, damaged_sections, jumper_list, limit, small_case, stage};
@@ -42,10 +43,12 @@ impl<'a> Input<'a> {
     }
 }
 
-/// A call that was made: its number, the version of its net, and its answer.
+/// A call that was made: its number, the version of its net, its clearance, and its answer.
 pub struct Made {
     pub call: u8,
     pub version: u32,
+    /// 0 where the call takes none.
+    pub clearance: u16,
     pub answer: Answer,
 }
 
@@ -55,6 +58,7 @@ pub fn one(bytes: &[u8]) -> Made {
     let call = input.byte() % 5;
     // of a file, where the call takes one
     let mut version = 1;
+    let mut clearance = 0;
     let answer = match call {
         0 => {
             version = version_of(input.0);
@@ -79,25 +83,35 @@ pub fn one(bytes: &[u8]) -> Made {
         }
         2 => {
             let (stage, limit) = (input.number(1), input.number(4));
+            clearance = input.number(2) as u16;
             let lent = input.number(2) as usize;
             let list_length = input.number(2) as usize;
             let list = input.slice(list_length);
             version = version_of(input.0);
-            compare_report(library::report, stage, limit, input.0, list, lent)
+            compare_report(
+                library::report,
+                stage,
+                limit,
+                clearance,
+                input.0,
+                list,
+                lent,
+            )
         }
         3 => {
             let (stage, limit) = (input.number(1), input.number(4));
+            clearance = input.number(2) as u16;
             let file = input.0;
             version = version_of(file);
             let mut out = vec![0x3c; REPAIR_MOST];
-            let answer = library::repair(stage, limit, file, &mut out);
+            let answer = library::repair(stage, limit, clearance, file, &mut out);
             match net_at(stage, file) {
                 Err(refusal) => assert_eq!(answer, refusal),
                 Ok(net) => {
                     let steps: usize = (1..net.nodes.len()).map(|i| net.length(i)).sum();
                     if steps < 20_000 {
-                        let least = table::least(&net, stage, limit);
-                        compare(library::repair, &net, stage, limit, least, false);
+                        let least = table::least(&net, stage, limit, clearance);
+                        compare(library::repair, &net, stage, limit, clearance, least, false);
                     }
                 }
             }
@@ -118,6 +132,7 @@ pub fn one(bytes: &[u8]) -> Made {
     Made {
         call,
         version,
+        clearance,
         answer,
     }
 }
@@ -144,6 +159,7 @@ pub fn seed(random: &mut Random) -> Vec<u8> {
             let (list, nodes) = (case.list(), case.net.nodes.len());
             bytes.push(case.stage as u8);
             bytes.extend(case.limit.to_le_bytes());
+            bytes.extend(case.clearance.to_le_bytes());
             let enough = 12 * (nodes + case.jumpers.len());
             bytes.extend(two(enough.min(65535)));
             bytes.extend(two(list.len()));
@@ -152,18 +168,20 @@ pub fn seed(random: &mut Random) -> Vec<u8> {
         }
         4 => bytes.extend(def_seed(&any_case(random), random.below(150) as usize)),
         _ => {
-            let (net, mut at, mut most) = small_case(random, 40);
+            let (net, mut at, mut most, mut near) = small_case(random, 40);
             if random.chance(1, 3) {
                 at = stage(random, &net);
                 most = limit(random, &net);
+                near = clearance(random, &net);
             }
             if random.chance(1, 30) {
                 at = random.pick(&[0, 17, 255]);
             }
             bytes.push(at as u8);
             bytes.extend(most.to_le_bytes());
+            bytes.extend(near.to_le_bytes());
             if call == 2 {
-                let list = jumper_list(random, &net, at.clamp(1, 16));
+                let list = jumper_list(random, &net, at.clamp(1, 16), near);
                 bytes.extend(two(12 * random.below(60) as usize));
                 bytes.extend(two(list.len()));
                 bytes.extend(list);
@@ -190,11 +208,19 @@ fn def_seed(case: &Case, lent: usize) -> Vec<u8> {
     bytes
 }
 
+/// Where an input has the clearance, behind call, stage and limit; none if its call takes none.
+fn clearance_of(bytes: &mut [u8]) -> Option<&mut [u8]> {
+    match bytes {
+        [call, rest @ ..] if [2, 3].contains(&(*call % 5)) => rest.get_mut(5..7),
+        _ => None,
+    }
+}
+
 /// An input changed in a few places.
 pub fn mutate(random: &mut Random, bytes: &mut Vec<u8>) {
     for _ in 0..random.range(1, 4) {
         let at = random.below(bytes.len().max(1) as u64) as usize;
-        match random.below(7) {
+        match random.below(8) {
             0 if !bytes.is_empty() => bytes[at] = random.next() as u8,
             1 if !bytes.is_empty() => bytes[at] ^= 1 << random.below(8),
             2 if !bytes.is_empty() => bytes[at] = bytes[at].wrapping_add(1),
@@ -202,6 +228,12 @@ pub fn mutate(random: &mut Random, bytes: &mut Vec<u8>) {
             4 => bytes.insert(at, random.next() as u8),
             5 if !bytes.is_empty() => {
                 bytes.remove(at);
+            }
+            6 => {
+                if let Some(clearance) = clearance_of(bytes) {
+                    let edges = [0u16, 1, 2, 255, 256, 32768, 65534, 65535];
+                    clearance.copy_from_slice(&random.pick(&edges).to_le_bytes());
+                }
             }
             _ => {
                 let from = random.below(bytes.len().max(1) as u64) as usize;

@@ -20,7 +20,7 @@ pub struct Calls {
 }
 
 /// Enough for every report of these nets.
-const ENOUGH: usize = 12 * 64;
+pub const ENOUGH: usize = 12 * 64;
 
 /// Net A in version 2, its wire and obstacles on these layers.
 fn net_a_on(layer: u8, obstacles: &[(u8, [u16; 4])]) -> Net {
@@ -37,7 +37,7 @@ fn net_a_on(layer: u8, obstacles: &[(u8, [u16; 4])]) -> Net {
 /// The number of report's answer to one jumper, whose place is always 0.
 fn jumper_at(report: Report, net: &Net, stage: u32, wire: usize, position: usize) -> u32 {
     let (file, list) = (net.file(), list_of(&[(wire, position)]));
-    let answer = compare_report(report, stage, 0, &file, &list, ENOUGH);
+    let answer = compare_report(report, stage, 0, 0, &file, &list, ENOUGH);
     assert_eq!(answer.place, 0);
     answer.number
 }
@@ -55,7 +55,7 @@ fn middle_of_a(report: Report, repair: Repair, net: &Net, barred: bool) {
             assert_eq!(number, expected, "{net:?} stage {stage} at {position}");
         }
         let count = if barred { 2 } else { 1 };
-        compare_repair(repair, net, stage, 7, Some(count), true);
+        compare_repair(repair, net, stage, 7, 0, Some(count), true);
     }
 }
 
@@ -69,7 +69,7 @@ pub fn every_two_layers(report: Report, repair: Repair) {
             // all points barred, or none
             let net = net_a_on(wire, &[(obstacle, [1, 0, 12, 0])]);
             let least = if barred { None } else { Some(1) };
-            compare_repair(repair, &net, wire.into(), 12, least, true);
+            compare_repair(repair, &net, wire.into(), 12, 0, least, true);
         }
     }
 }
@@ -82,7 +82,7 @@ pub fn version_1_counts_for_every_wire(report: Report, repair: Repair) {
         middle_of_a(report, repair, &net, true);
         let mut net = net_a(&[[1, 0, 12, 0]]);
         net.wires[0].layer = wire;
-        compare_repair(repair, &net, wire.into(), 12, None, true);
+        compare_repair(repair, &net, wire.into(), 12, 0, None, true);
     }
 }
 
@@ -137,7 +137,7 @@ pub fn crossing_wires(report: Report, repair: Repair) {
             of_layer(16, [11, 10, 20, 10]),
             of_layer(layer, [10, 10, 10, 10]),
         ];
-        compare_repair(repair, &net, 16, 10, least, true);
+        compare_repair(repair, &net, 16, 10, 0, least, true);
     }
     // the lower wire is absent from stage 1, the higher one from stage 2
     net.obstacles = vec![of_layer(2, [0, 0, 20, 20])];
@@ -152,7 +152,7 @@ pub fn all_on_layer_16(report: Report, repair: Repair, cases: usize) {
     let mut random = Random::new(41);
     let (mut met, mut made) = ([0usize; 17], 0);
     while made < cases {
-        let (one, stage, _) = match made % 20 {
+        let (one, stage, _, clearance) = match made % 20 {
             0 => large_case(&mut random),
             _ => small_case(&mut random, 40),
         };
@@ -160,7 +160,7 @@ pub fn all_on_layer_16(report: Report, repair: Repair, cases: usize) {
             continue;
         }
         let limit = limit(&mut random, &one);
-        let list = jumper_list(&mut random, &one, stage);
+        let list = jumper_list(&mut random, &one, stage, clearance);
         let two = Net {
             version: 2,
             ..one.clone()
@@ -168,14 +168,15 @@ pub fn all_on_layer_16(report: Report, repair: Repair, cases: usize) {
         let files = [one.file(), two.file()];
         let reports = files.each_ref().map(|file| {
             let mut out = vec![0x5a; 12 * 2048];
-            (report(stage, limit, file, &list, &mut out), out)
+            (report(stage, limit, clearance, file, &list, &mut out), out)
         });
-        assert!(reports[0] == reports[1], "{one:?} {stage} {limit} {list:?}");
+        let told = || format!("{one:?} {stage} {limit} {clearance} {list:?}");
+        assert!(reports[0] == reports[1], "{}", told());
         met[reports[0].0.number as usize] += 1;
         let repairs = files
             .each_ref()
-            .map(|file| call_repair(repair, stage, limit, file, REPAIR_MOST).0);
-        assert_eq!(repairs[0], repairs[1], "{one:?} {stage} {limit}");
+            .map(|file| call_repair(repair, stage, limit, clearance, file, REPAIR_MOST).0);
+        assert_eq!(repairs[0], repairs[1], "{}", told());
         met[repairs[0].number as usize] += 1;
         made += 1;
     }
@@ -186,26 +187,29 @@ pub fn all_on_layer_16(report: Report, repair: Repair, cases: usize) {
 /// Report and repair agree on what is barred: a set that repair writes is accepted by report, and leaves no piece harmful.
 pub fn repaired_is_reported(report: Report, repair: Repair, cases: usize) {
     let mut random = Random::new(42);
-    let mut with_jumpers = [0usize; 2];
+    let (mut with_jumpers, mut with_clearance) = ([0usize; 2], 0);
     for case in 0..cases {
-        let (net, stage, limit) = match case % 10 {
+        let (net, stage, limit, clearance) = match case % 10 {
             0 => large_case(&mut random),
             _ => small_case(&mut random, 40),
         };
         let file = net.file();
-        let (answer, set) = call_repair(repair, stage, limit, &file, REPAIR_MOST);
+        let (answer, set) = call_repair(repair, stage, limit, clearance, &file, REPAIR_MOST);
         if answer.number != 0 {
             continue;
         }
         let mut out = vec![0; 12 * 1024];
-        let reported = report(stage, limit, &file, &list_of(&set), &mut out);
-        let told = || format!("{net:?} stage {stage} limit {limit} set {set:?}");
+        let reported = report(stage, limit, clearance, &file, &list_of(&set), &mut out);
+        let told =
+            || format!("{net:?} stage {stage} limit {limit} clearance {clearance} set {set:?}");
         assert_eq!(reported.number, 0, "{}", told());
         let mut records = out.chunks(12).take(reported.count as usize);
         assert!(records.all(|record| record[7] < 4), "{}", told());
         with_jumpers[net.version as usize - 1] += usize::from(!set.is_empty());
+        with_clearance += usize::from(!set.is_empty() && clearance > 0);
     }
-    println!("sets with jumpers by version: {with_jumpers:?}");
+    println!("sets with jumpers by version: {with_jumpers:?}, with a clearance: {with_clearance}");
+    assert!(with_clearance * 20 > cases);
     assert!(with_jumpers.iter().all(|&met| met * 20 > cases));
 }
 
@@ -226,12 +230,12 @@ fn all_refuse(calls: Calls, obstacles: Vec<u8>, number: u32, place: usize) {
         assert_eq!(compare_write(calls.write, 2, &sections, lent), expected);
         // a list cut short, of no wire, and none
         for list in [&[1][..], &[9, 9, 9], &[]] {
-            let answer = compare_report(calls.report, 1, 0, &file, list, lent);
+            let answer = compare_report(calls.report, 1, 0, 0, &file, list, lent);
             assert_eq!(answer, expected);
         }
         // no legal set, and one of no jumper
         for limit in [0, 13] {
-            let (answer, _) = call_repair(calls.repair, 1, limit, &file, lent);
+            let (answer, _) = call_repair(calls.repair, 1, limit, 0, &file, lent);
             assert_eq!(answer, expected);
         }
     }
@@ -401,7 +405,7 @@ pub fn straps(report: Report, repair: Repair) {
         };
         let under = 10 * u32::from(layer);
         for (limit, least) in [under, under + 1, 159].into_iter().zip(least) {
-            compare_repair(repair, &net, 16, limit, least, true);
+            compare_repair(repair, &net, 16, limit, 0, least, true);
         }
     }
 }

@@ -1,5 +1,6 @@
 //! The tests of each call, for any implementation of it: the library, and the plain program, which shows that they can be passed.
 
+pub mod clearance;
 pub mod def;
 pub mod first_nodes;
 pub mod fuzz;

@@ -12,6 +12,9 @@ use std::time::Duration;
 
 const MOST: usize = 8192;
 
+/// That of both programs.
+const CLEARANCE: u16 = 0;
+
 /// What the program writes; the input comes in stretches of these lengths, the rest at once.
 pub fn run(program: &Path, input: &[u8], stretches: &[usize]) -> String {
     let mut child = Command::new(program)
@@ -61,7 +64,7 @@ pub fn input(stage: u8, limit: u32, file: &[u8]) -> Vec<u8> {
 pub fn expected_report(input: &[u8]) -> String {
     let (stage, limit, file) = parts(input);
     let mut out = [0; 3072];
-    let answer = report(stage, limit, file, &[], &mut out);
+    let answer = report(stage, limit, CLEARANCE, file, &[], &mut out);
     if answer.number != 0 {
         return format!("refused {} {}\n", answer.number, answer.place);
     }
@@ -101,7 +104,7 @@ pub fn check_repair(program: &Path, input: &[u8], stretches: &[usize]) {
             return;
         }
     };
-    let Some(count) = table::least(&net, stage, limit) else {
+    let Some(count) = table::least(&net, stage, limit, CLEARANCE) else {
         assert_eq!(written, "refused 15 0\n", "{net:?}");
         return;
     };
@@ -115,7 +118,10 @@ pub fn check_repair(program: &Path, input: &[u8], stretches: &[usize]) {
         .collect();
     assert_eq!(set.len(), count, "{net:?}");
     assert!(set.windows(2).all(|w| w[0] < w[1]), "{set:?}");
-    assert!(legal(&net, stage, limit, &set), "{set:?} for {net:?}");
+    assert!(
+        legal(&net, stage, limit, CLEARANCE, &set),
+        "{set:?} for {net:?}"
+    );
     let mut again = format!("jumpers {count}\n");
     for (wire, position) in set {
         again += &format!("{wire} {position}\n");
@@ -133,7 +139,7 @@ fn random_input(random: &mut Random) -> Vec<u8> {
             input(stage, random.next() as u32, &file)
         }
         1 => {
-            let (net, stage, limit) = large_case(random);
+            let (net, stage, limit, _) = large_case(random);
             with(net, stage, limit)
         }
         2 | 3 => {
@@ -142,7 +148,7 @@ fn random_input(random: &mut Random) -> Vec<u8> {
             with(net, stage, limit)
         }
         _ => {
-            let (net, stage, limit) = small_case(random, 40);
+            let (net, stage, limit, _) = small_case(random, 40);
             with(net, stage, limit)
         }
     }
@@ -157,7 +163,7 @@ pub fn many_inputs(check: impl Fn(&[u8], &[usize]), cases: usize) {
     for _ in 0..20 {
         check(&random_input(&mut random), &[1, 3, 2, 30, 7]);
     }
-    let (net, stage, limit) = small_case(&mut random, 40);
+    let (net, stage, limit, _) = small_case(&mut random, 40);
     let whole = input(stage as u8, limit, &net.file());
     for length in 0..whole.len() {
         check(&whole[..length], &[]);

@@ -15,12 +15,13 @@ pub fn call(
     repair: Repair,
     stage: u32,
     limit: u32,
+    clearance: u16,
     file: &[u8],
     lent: usize,
 ) -> (Answer, Vec<Point>) {
     let before: Vec<u8> = (0..lent).map(|k| (k * 13 + 3) as u8).collect();
     let mut out = before.clone();
-    let answer = repair(stage, limit, file, &mut out);
+    let answer = repair(stage, limit, clearance, file, &mut out);
     let end = 3 * answer.count as usize;
     assert!(end <= lent, "{answer:?} with {lent} bytes lent");
     assert!(out[end..] == before[end..], "bytes behind the list changed");
@@ -37,14 +38,15 @@ pub fn compare(
     net: &Net,
     stage: u32,
     limit: u32,
+    clearance: u16,
     least: Option<usize>,
     every: bool,
 ) {
     let file = net.file();
-    let told = || format!("{net:?} stage {stage} limit {limit}");
+    let told = || format!("{net:?} stage {stage} limit {limit} clearance {clearance}");
     let Some(count) = least else {
         for lent in [0, 1, 3, REPAIR_MOST] {
-            let (answer, _) = call(repair, stage, limit, &file, lent);
+            let (answer, _) = call(repair, stage, limit, clearance, &file, lent);
             assert_eq!(answer, Answer::refused(15, 0), "{}", told());
         }
         return;
@@ -52,11 +54,11 @@ pub fn compare(
     let needed = 3 * count;
     let short = if every { 0 } else { needed.saturating_sub(1) };
     for lent in short..needed {
-        let (answer, _) = call(repair, stage, limit, &file, lent);
+        let (answer, _) = call(repair, stage, limit, clearance, &file, lent);
         assert_eq!(answer, Answer::refused(16, needed), "{}", told());
     }
     for lent in [needed, needed + 4] {
-        let (answer, set) = call(repair, stage, limit, &file, lent);
+        let (answer, set) = call(repair, stage, limit, clearance, &file, lent);
         assert_eq!(answer, Answer::done(count), "{}", told());
         assert!(
             set.windows(2).all(|w| w[0] < w[1]),
@@ -64,41 +66,46 @@ pub fn compare(
             told()
         );
         assert!(
-            legal(net, stage, limit, &set),
+            legal(net, stage, limit, clearance, &set),
             "{set:?} is not legal: {}",
             told()
         );
     }
 }
 
-/// Small nets against every set. In version 2 the least count often is another if layers are ignored, and if an equal layer does not count.
+/// Small nets against every set. The least count often is another without the clearance; in version 2 it often is if layers are ignored,
+/// and if an equal layer does not count.
 pub fn small_nets(repair: Repair, cases: usize) {
     let mut random = Random::new(30);
     let mut counts = [[0usize; 16]; 2];
     let mut refused = [0; 2];
-    let (mut by_layer, mut by_equal) = (0, 0);
+    let (mut by_clearance, mut by_layer, mut by_equal) = (0, 0, 0);
     for _ in 0..cases {
-        let (net, stage, limit) = small_case(&mut random, 11);
-        let least = every_set::least(&net, stage, limit);
-        compare(repair, &net, stage, limit, least, true);
+        let (net, stage, limit, clearance) = small_case(&mut random, 11);
+        let least = every_set::least(&net, stage, limit, clearance);
+        compare(repair, &net, stage, limit, clearance, least, true);
         let version = net.version as usize - 1;
         match least {
             None => refused[version] += 1,
             Some(count) => counts[version][count] += 1,
         }
+        by_clearance += usize::from(table::least(&net, stage, limit, 0) != least);
         if version == 1 {
-            let least_of = |net: Net| table::least(&net, stage, limit);
+            let least_of = |net: Net| table::least(&net, stage, limit, clearance);
             by_layer += usize::from(least_of(on_layers(&net, |_| 16)) != least);
             by_equal += usize::from(least_of(on_layers(&net, |layer| layer - 1)) != least);
         }
     }
     println!("refused {refused:?}, by count {counts:?}");
-    println!("another by layer {by_layer}, by an equal layer {by_equal}");
+    println!(
+        "another by clearance {by_clearance}, by layer {by_layer}, by an equal layer {by_equal}"
+    );
     for (refused, counts) in refused.into_iter().zip(counts) {
         assert!(refused * 20 > cases && counts[0] * 20 > cases && counts[1] * 40 > cases);
         assert!(counts[2] * 200 > cases && counts[3] * 2000 > cases);
     }
-    assert!(by_layer * 100 > cases && by_equal * 100 > cases);
+    let another = [by_clearance, by_layer, by_equal];
+    assert!(another.iter().all(|met| met * 100 > cases));
 }
 
 /// Nets of 100 to 256 nodes against the table over node and jumper count.
@@ -108,9 +115,9 @@ pub fn large_nets(repair: Repair, cases: usize) {
     let mut some = 0;
     let mut most = 0;
     for _ in 0..cases {
-        let (net, stage, limit) = large_case(&mut random);
-        let least = table::least(&net, stage, limit);
-        compare(repair, &net, stage, limit, least, false);
+        let (net, stage, limit, clearance) = large_case(&mut random);
+        let least = table::least(&net, stage, limit, clearance);
+        compare(repair, &net, stage, limit, clearance, least, false);
         match least {
             None => refused += 1,
             Some(count) => {
@@ -131,8 +138,9 @@ pub fn refusals_in_order(repair: Repair, cases: usize) {
         let file = any_file(&mut random);
         let stage = random.pick(&[0, 1, 2, 3, 16, 17, 256, 257, u32::MAX]);
         let limit = random.next() as u32 >> random.pick(&[0, 22, 25, 28]);
+        let clearance = random.pick(&[0, 0, 1, 300, 65535]);
         let lent = random.pick(&[0, 0, 1, 2, 20]);
-        let (answer, _) = call(repair, stage, limit, &file, lent);
+        let (answer, _) = call(repair, stage, limit, clearance, &file, lent);
         let read = expected_read(&file);
         if !(1..=16).contains(&stage) {
             assert_eq!(answer, Answer::refused(1, 0));
@@ -229,24 +237,24 @@ pub fn net_c() -> Net {
 
 /// The smallest set is one of these, and each of these is one.
 fn one_of(repair: Repair, net: &Net, limit: u32, sets: &[&[Point]]) {
-    let least = every_set::least(net, 1, limit);
+    let least = every_set::least(net, 1, limit, 0);
     assert_eq!(least, sets.first().map(|set| set.len()));
-    compare(repair, net, 1, limit, least, true);
+    compare(repair, net, 1, limit, 0, least, true);
     if least.is_some() {
         let mut expected: Vec<Vec<Point>> = sets.iter().map(|set| set.to_vec()).collect();
-        let mut found = every_set::smallest_sets(net, 1, limit);
+        let mut found = every_set::smallest_sets(net, 1, limit, 0);
         expected.sort();
         found.sort();
         assert_eq!(found, expected);
-        let (_, set) = call(repair, 1, limit, &net.file(), REPAIR_MOST);
+        let (_, set) = call(repair, 1, limit, 0, &net.file(), REPAIR_MOST);
         assert!(expected.contains(&set), "{set:?} at limit {limit}");
     }
 }
 
 /// The count alone.
 fn count_is(repair: Repair, net: &Net, limit: u32, count: usize) {
-    assert_eq!(every_set::least(net, 1, limit), Some(count));
-    compare(repair, net, 1, limit, Some(count), true);
+    assert_eq!(every_set::least(net, 1, limit, 0), Some(count));
+    compare(repair, net, 1, limit, 0, Some(count), true);
 }
 
 /// "Small nets" of document 01.
@@ -271,22 +279,22 @@ pub fn named_nets(repair: Repair) {
     for turns in 0..4 {
         let j = net_j(turns);
         assert_eq!(every_set_on_wire(&j, 20), vec![2]);
-        compare(repair, &j, 1, 20, Some(1), true);
-        let (_, set) = call(repair, 1, 20, &j.file(), 3);
+        compare(repair, &j, 1, 20, 0, Some(1), true);
+        let (_, set) = call(repair, 1, 20, 0, &j.file(), 3);
         assert_eq!(set[0].0, 2);
     }
     let c = net_c();
     one_of(repair, &c, 10, &[]);
     one_of(repair, &c, 11, &[]);
     one_of(repair, &c, 12, &[&[]]);
-    let (answer, _) = call(repair, 1, 1, &a.file(), 5);
+    let (answer, _) = call(repair, 1, 1, 0, &a.file(), 5);
     assert_eq!(answer, Answer::refused(16, 6));
 }
 
 /// The wires on which a single jumper is legal.
 fn every_set_on_wire(net: &Net, limit: u32) -> Vec<usize> {
     let mut wires: Vec<usize> = (1..net.nodes.len())
-        .filter(|&i| (1..net.length(i)).any(|t| legal(net, 1, limit, &[(i, t)])))
+        .filter(|&i| (1..net.length(i)).any(|t| legal(net, 1, limit, 0, &[(i, t)])))
         .collect();
     wires.dedup();
     wires
@@ -296,7 +304,7 @@ fn every_set_on_wire(net: &Net, limit: u32) -> Vec<usize> {
 pub fn shortcuts(repair: Repair) {
     // the largest arms cut where the gate's arm was enough; a piece without a gate may be as heavy as it likes
     for turns in 0..4 {
-        compare(repair, &net_j(turns), 1, 20, Some(1), true);
+        compare(repair, &net_j(turns), 1, 20, 0, Some(1), true);
     }
     // net J with every place of the gate, also as a junction inside a larger net
     for gate in 0..5 {
@@ -309,15 +317,15 @@ pub fn shortcuts(repair: Repair) {
             wire.factor = 1;
         }
         for limit in 0..=40 {
-            let least = table::least(&j, 1, limit);
-            compare(repair, &j, 1, limit, least, true);
+            let least = table::least(&j, 1, limit, 0);
+            compare(repair, &j, 1, limit, 0, least, true);
         }
     }
     // the barred weight round each single node
     one_of(repair, &net_c(), 10, &[]);
     // a plain node may go over
     let plain = chain(&[0, 3, 40, 44, 80], &[1, 0, 0, 0, 0], &[[4, 0, 80, 0]]);
-    compare(repair, &plain, 1, 2, Some(1), true);
+    compare(repair, &plain, 1, 2, 0, Some(1), true);
     // a cut at distance 0: the nearest is one step off, and that step stays
     one_of(repair, &net_a(&[]), 0, &[]);
     one_of(repair, &chain(&[0, 13, 14], &[0, 1, 0], &[]), 1, &[]);
@@ -344,10 +352,12 @@ pub fn worst_nets(repair: Repair) -> f64 {
         let file = net.file();
         let total = net.total_weight();
         for limit in [0, 1, 255, 65535, total / 200, total / 7, total / 2, total] {
-            let mut out = vec![0; REPAIR_MOST];
-            let start = std::time::Instant::now();
-            repair(16, limit as u32, &file, &mut out);
-            slowest = slowest.max(start.elapsed().as_secs_f64() * 1000.0);
+            for clearance in [0, 1] {
+                let mut out = vec![0; REPAIR_MOST];
+                let start = std::time::Instant::now();
+                repair(16, limit as u32, clearance, &file, &mut out);
+                slowest = slowest.max(start.elapsed().as_secs_f64() * 1000.0);
+            }
         }
     }
     slowest
@@ -467,8 +477,9 @@ pub fn worst_nets_are_right(repair: Repair) {
             let net = net(&mut random, shape);
             let total = net.total_weight();
             let limit = (total / random.range(2, 40)) as u32;
-            let least = table::least(&net, 16, limit);
-            compare(repair, &net, 16, limit, least, false);
+            let clearance = random.pick(&[0, 0, 1, 2]);
+            let least = table::least(&net, 16, limit, clearance);
+            compare(repair, &net, 16, limit, clearance, least, false);
         }
     }
 }

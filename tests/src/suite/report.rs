@@ -1,6 +1,7 @@
 //! The report: refusals 1 to 14, 16 and 20, every record, every byte behind the last.
 
 use super::met::{version_of, Met};
+use crate::generate::clearance::clearance;
 use crate::generate::obstacle::on_layers;
 use crate::generate::{any_file, any_net, jumper_list, limit, net, stage, version, Shape};
 use crate::random::Random;
@@ -13,28 +14,30 @@ pub fn compare_report(
     report: Report,
     stage: u32,
     limit: u32,
+    clearance: u16,
     file: &[u8],
     list: &[u8],
     lent: usize,
 ) -> Answer {
     let before: Vec<u8> = (0..lent).map(|k| (k * 11 + 5) as u8).collect();
     let (mut out, mut expected_out) = (before.clone(), before);
-    let expected = expected_report(stage, limit, file, list, &mut expected_out);
-    assert_eq!(
-        report(stage, limit, file, list, &mut out),
-        expected,
-        "stage {stage} limit {limit} file {file:?} list {list:?} lent {lent}"
-    );
+    let expected = expected_report(stage, limit, clearance, file, list, &mut expected_out);
+    let told = || {
+        format!("stage {stage} limit {limit} clearance {clearance} file {file:?} list {list:?} lent {lent}")
+    };
+    let answer = report(stage, limit, clearance, file, list, &mut out);
+    assert_eq!(answer, expected, "{}", told());
     assert!(
         out == expected_out,
-        "bytes differ: stage {stage} limit {limit} file {file:?} list {list:?} lent {lent}\n{out:?}\n{expected_out:?}"
+        "bytes differ: {}\n{out:?}\n{expected_out:?}",
+        told()
     );
     expected
 }
 
 /// The bytes a report of this list needs, if it is accepted.
-pub fn needed(stage: u32, file: &[u8], list: &[u8]) -> usize {
-    let answer = expected_report(stage, 0, file, list, &mut []);
+pub fn needed(stage: u32, clearance: u16, file: &[u8], list: &[u8]) -> usize {
+    let answer = expected_report(stage, 0, clearance, file, list, &mut []);
     answer.place as usize
 }
 
@@ -53,50 +56,88 @@ fn random_net(random: &mut Random) -> Net {
 }
 
 /// The answer would be another if every obstacle counted for every wire.
-fn layers_matter(stage: u32, file: &[u8], list: &[u8], answer: Answer) -> bool {
+fn layers_matter(stage: u32, clearance: u16, file: &[u8], list: &[u8], answer: Answer) -> bool {
     let Ok(net) = net_of(file) else {
         return false;
     };
     let file = on_layers(&net, |_| 16).file();
-    expected_report(stage, 0, &file, list, &mut []).number == 14 && answer.number != 14
+    expected_report(stage, 0, clearance, &file, list, &mut []).number == 14 && answer.number != 14
 }
 
-/// Random nets, lists good and damaged, buffers near the need; every refusal that a version can meet is met often in it.
+/// The answer is 14, and another without the clearance.
+fn clearance_matters(stage: u32, file: &[u8], list: &[u8], answer: Answer) -> bool {
+    answer.number == 14 && expected_report(stage, 0, 0, file, list, &mut []) != answer
+}
+
+/// What a call of report takes.
+pub struct Call {
+    pub stage: u32,
+    pub limit: u32,
+    pub clearance: u16,
+    pub file: Vec<u8>,
+    pub list: Vec<u8>,
+    pub lent: usize,
+}
+
+/// A net or a damaged file, a list good or damaged, a buffer near the need.
+pub fn random_call(random: &mut Random) -> Call {
+    let net = random_net(random);
+    let mut stage = stage(random, &net);
+    let limit = limit(random, &net);
+    let clearance = clearance(random, &net);
+    let list = jumper_list(random, &net, stage, clearance);
+    let mut file = net.file();
+    if random.chance(1, 8) {
+        file = any_file(random);
+    }
+    if random.chance(1, 25) {
+        stage = random.pick(&[0, 17, 255, 256, 257, u32::MAX]);
+    }
+    let needed = needed(stage, clearance, &file, &list);
+    let lent = match random.below(8) {
+        0 => 0,
+        1 => needed.saturating_sub(1),
+        2 => needed.saturating_sub(12),
+        3 => random.below(needed as u64 + 1) as usize,
+        4 | 5 => needed,
+        _ => needed + random.below(30) as usize,
+    };
+    Call {
+        stage,
+        limit,
+        clearance,
+        file,
+        list,
+        lent,
+    }
+}
+
+/// Random calls; every refusal that a version can meet is met often in it.
 pub fn random_calls(report: Report, cases: usize) {
     let mut random = Random::new(20);
-    let (mut met, mut by_layer) = (Met::default(), 0);
+    let (mut met, mut by_layer, mut by_clearance) = (Met::default(), 0, 0);
     for _ in 0..cases {
-        let net = random_net(&mut random);
-        let mut stage = stage(&mut random, &net);
-        let limit = limit(&mut random, &net);
-        let list = jumper_list(&mut random, &net, stage);
-        let mut file = net.file();
-        if random.chance(1, 8) {
-            file = any_file(&mut random);
-        }
-        if random.chance(1, 25) {
-            stage = random.pick(&[0, 17, 255, 256, 257, u32::MAX]);
-        }
-        let needed = needed(stage, &file, &list);
-        let lent = match random.below(8) {
-            0 => 0,
-            1 => needed.saturating_sub(1),
-            2 => needed.saturating_sub(12),
-            3 => random.below(needed as u64 + 1) as usize,
-            4 | 5 => needed,
-            _ => needed + random.below(30) as usize,
-        };
-        let answer = compare_report(report, stage, limit, &file, &list, lent);
+        let Call {
+            stage,
+            limit,
+            clearance,
+            file,
+            list,
+            lent,
+        } = random_call(&mut random);
+        let answer = compare_report(report, stage, limit, clearance, &file, &list, lent);
         met.add(version_of(&file), answer.number);
-        by_layer += usize::from(layers_matter(stage, &file, &list, answer));
+        by_layer += usize::from(layers_matter(stage, clearance, &file, &list, answer));
+        by_clearance += usize::from(clearance_matters(stage, &file, &list, answer));
     }
-    println!("report answers by number: {met:?}, not 14 by a layer: {by_layer}");
+    println!("report answers by number: {met:?}");
+    println!("not 14 by a layer: {by_layer}, 14 by the clearance: {by_clearance}");
     let mut numbers: Vec<usize> = (0..=14).chain([16]).collect();
-    met.often(0, &[1, 2], 10_000, cases);
+    met.often(0, &[1, 2], 20_000, cases);
     met.often(1, &numbers, 2000, cases);
     numbers.push(20);
     met.often(2, &numbers, 2000, cases);
-    assert!(by_layer * 100 > cases);
+    assert!(by_layer * 100 > cases && by_clearance * 100 > cases);
 }
 
 /// An entry that is refused behind the entry before, in the place of another, and the number that it is refused by.
@@ -104,6 +145,7 @@ fn wrong_entry(
     random: &mut Random,
     net: &Net,
     stage: u32,
+    clearance: u16,
     before: Point,
     (i, t): Point,
     kind: usize,
@@ -122,7 +164,10 @@ fn wrong_entry(
             13,
         ),
         7 => ((random.range(nodes as u64, 255) as usize, t), 13),
-        _ => ((i, (least..net.length(i)).find(|&t| net.barred(i, t))?), 14),
+        _ => {
+            let barred = |&t: &usize| net.barred(i, t, clearance);
+            ((i, (least..net.length(i)).find(barred)?), 14)
+        }
     };
     Some((entry, number))
 }
@@ -141,7 +186,8 @@ pub fn one_wrong_entry(report: Report, cases: usize) {
         let net = net(&mut random, shape);
         let stage = stage(&mut random, &net);
         let every = random.pick(&[1, 2, 7, 30]);
-        let mut jumpers: Vec<_> = free_points(&net, stage)
+        let clearance = clearance(&mut random, &net);
+        let mut jumpers: Vec<_> = free_points(&net, stage, clearance)
             .into_iter()
             .step_by(every)
             .collect();
@@ -150,7 +196,15 @@ pub fn one_wrong_entry(report: Report, cases: usize) {
         }
         let e = random.range(1, jumpers.len() as u64 - 1) as usize;
         let (before, kind) = (jumpers[e - 1], case % met.len());
-        let wrong = wrong_entry(&mut random, &net, stage, before, jumpers[e], kind);
+        let wrong = wrong_entry(
+            &mut random,
+            &net,
+            stage,
+            clearance,
+            before,
+            jumpers[e],
+            kind,
+        );
         let Some((entry, number)) = wrong else {
             continue;
         };
@@ -160,6 +214,7 @@ pub fn one_wrong_entry(report: Report, cases: usize) {
             report,
             stage,
             5,
+            clearance,
             &net.file(),
             &list,
             12 * (40 + jumpers.len()),
@@ -191,11 +246,13 @@ pub fn every_length_lent(report: Report) {
         }
         let stage = stage(&mut random, &net);
         let limit = limit(&mut random, &net);
-        let jumpers: Vec<_> = free_points(&net, stage).into_iter().take(30).collect();
+        let clearance = clearance(&mut random, &net);
+        let points = free_points(&net, stage, clearance);
+        let jumpers: Vec<_> = points.into_iter().take(30).collect();
         let (file, list) = (net.file(), list_of(&jumpers));
-        let needed = needed(stage, &file, &list);
+        let needed = needed(stage, clearance, &file, &list);
         for lent in 0..needed + 14 {
-            let answer = compare_report(report, stage, limit, &file, &list, lent);
+            let answer = compare_report(report, stage, limit, clearance, &file, &list, lent);
             assert_eq!(answer.number, if lent < needed { 16 } else { 0 });
         }
     }
@@ -219,15 +276,16 @@ pub fn many_jumpers(report: Report) {
             obstacles: 3,
         };
         let net = net(&mut random, shape);
-        let points = free_points(&net, 16);
+        let clearance = random.below(4) as u16;
+        let points = free_points(&net, 16, clearance);
         let every = points.len() / 30_000 + 1;
         let jumpers: Vec<_> = points.into_iter().step_by(every).collect();
         let (file, list) = (net.file(), list_of(&jumpers));
-        let needed = needed(16, &file, &list);
+        let needed = needed(16, clearance, &file, &list);
         for limit in [0, 1, 1000, u32::MAX] {
-            compare_report(report, 16, limit, &file, &list, needed + 5);
+            compare_report(report, 16, limit, clearance, &file, &list, needed + 5);
         }
-        compare_report(report, 16, 7, &file, &list, needed - 1);
+        compare_report(report, 16, 7, clearance, &file, &list, needed - 1);
     }
 }
 
@@ -254,7 +312,7 @@ pub fn heaviest(report: Report) {
     };
     let weight = 255u32 * 255 * 65535;
     for limit in [weight - 1, weight] {
-        let answer = compare_report(report, 16, limit, &net.file(), &[], 20);
+        let answer = compare_report(report, 16, limit, 0, &net.file(), &[], 20);
         assert_eq!(answer, Answer::done(1));
     }
 }

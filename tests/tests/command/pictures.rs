@@ -13,11 +13,11 @@ const FEW: f64 = 560.0;
 const MANY: f64 = 1000.0;
 
 /// A picture's elements, one a line.
-struct Picture {
-    lines: Vec<String>,
+pub struct Picture {
+    pub lines: Vec<String>,
 }
 
-fn field(line: &str, name: &str) -> f64 {
+pub fn field(line: &str, name: &str) -> f64 {
     let value = line.split(&format!(" {name}=\"")).nth(1).expect(line);
     value.split('"').next().unwrap().parse().expect(line)
 }
@@ -28,7 +28,7 @@ fn text(line: &str) -> &str {
 }
 
 impl Picture {
-    fn new(net: &str, options: &[&str], list: &[u8]) -> Picture {
+    pub fn new(net: &str, options: &[&str], list: &[u8]) -> Picture {
         let list: &[&[u8]] = if list.is_empty() { &[] } else { &[list] };
         let jumpers: &[&str] = if list.is_empty() {
             &[]
@@ -45,19 +45,19 @@ impl Picture {
     }
 
     /// A net with the jumpers that repair puts on it.
-    fn repaired(net: &str, options: &[&str]) -> Picture {
+    pub fn repaired(net: &str, options: &[&str]) -> Picture {
         let list = antenna(&[&["repair", net], options].concat(), &[]);
         Picture::new(net, options, &list.out)
     }
 
     /// The elements before the legend, and the legend.
-    fn parts(&self) -> (&[String], &[String]) {
+    pub fn parts(&self) -> (&[String], &[String]) {
         let legend = |line: &String| line.starts_with("<g font-size");
         let at = self.lines.iter().position(legend).unwrap();
         (&self.lines[..at], &self.lines[at..])
     }
 
-    fn with<'a>(&'a self, start: &'a str, what: &'a str) -> impl Iterator<Item = &'a String> {
+    pub fn with<'a>(&'a self, start: &'a str, what: &'a str) -> impl Iterator<Item = &'a String> {
         let (net, _) = self.parts();
         let is = move |line: &&String| line.starts_with(start) && line.contains(what);
         net.iter().filter(is)
@@ -78,13 +78,23 @@ impl Picture {
         self.with("<text", colour)
     }
 
-    /// What the legend says, but for the summary above it.
-    fn legend(&self) -> Vec<&str> {
+    /// The lines of the summary, and what the legend says below it.
+    fn said(&self) -> (Vec<&str>, Vec<&str>) {
         let (_, legend) = self.parts();
         let texts = legend
             .iter()
             .filter(|line| line.starts_with("<text") && !line.contains("middle"));
-        texts.map(|line| text(line)).skip(1).collect()
+        let texts: Vec<&str> = texts.map(|line| text(line)).collect();
+        let summary = 1 + texts.iter().take_while(|line| line.ends_with(':')).count();
+        (texts[..summary].to_vec(), texts[summary..].to_vec())
+    }
+
+    pub fn summary(&self) -> Vec<&str> {
+        self.said().0
+    }
+
+    pub fn legend(&self) -> Vec<&str> {
+        self.said().1
     }
 
     /// The colour that the legend gives a layer.
@@ -185,7 +195,7 @@ fn pieces_of_random_nets() {
         let net = generate::any_net(&mut random);
         let stage = generate::stage(&mut random, &net);
         let limit = generate::limit(&mut random, &net);
-        let points = generate::jumpers(&mut random, &net, stage);
+        let points = generate::jumpers(&mut random, &net, stage, 0);
         let list: String = points
             .iter()
             .map(|(wire, t)| format!("{wire} {t}\n"))
@@ -289,6 +299,21 @@ fn legend_has_what_is_there() {
             ],
         ),
         (
+            Picture::repaired(
+                "clearance.net",
+                &["--limit=100", "--stage=3", "--clearance=10"],
+            ),
+            &[
+                "gate",
+                "node",
+                "jumper, wire:position",
+                "obstacle, with its layer",
+                "obstacle that does not count at this stage",
+                "clearance round an obstacle",
+                "layer 3",
+            ],
+        ),
+        (
             Picture::new("features.net", &["--limit=30", "--stage=3"], &[]),
             &[
                 &features[..],
@@ -325,7 +350,7 @@ fn layers_and_vias() {
 }
 
 /// Coordinates of the net to those of its picture.
-fn scale(net: &Net) -> impl Fn((u16, u16)) -> (f64, f64) {
+pub fn scale(net: &Net) -> impl Fn((u16, u16)) -> (f64, f64) {
     let side = if net.nodes.len() <= 40 { FEW } else { MANY };
     let x1 = net.nodes.iter().map(|node| node.x).min().unwrap();
     let x2 = net.nodes.iter().map(|node| node.x).max().unwrap();
@@ -339,31 +364,31 @@ fn scale(net: &Net) -> impl Fn((u16, u16)) -> (f64, f64) {
     }
 }
 
-/// The points inside wires that no obstacle bars, as the picture has them, each with its wire's layer.
-fn free_points(net: &Net) -> Vec<(u8, (f64, f64))> {
+/// The points inside wires that no obstacle bars at the clearance, as the picture has them, each with its wire's layer.
+fn free_points(net: &Net, clearance: u16) -> Vec<(u8, (f64, f64))> {
     let scale = scale(net);
     let wires = 1..net.nodes.len();
     let points = wires.flat_map(|i| (1..net.length(i)).map(move |t| (i, t)));
-    let free = points.filter(|&(i, t)| !net.barred(i, t));
+    let free = points.filter(|&(i, t)| !net.barred(i, t, clearance));
     free.map(|(i, t)| (net.wire(i).layer, scale(net.point(i, t))))
         .collect()
 }
 
 /// An obstacle that a picture has: its number and layer, where these are said, and its rectangle.
-struct Drawn<'a> {
-    named: Option<(usize, u8)>,
-    rectangle: [f64; 4],
+pub struct Drawn<'a> {
+    pub named: Option<(usize, u8)>,
+    pub rectangle: [f64; 4],
     line: &'a str,
 }
 
 impl Drawn<'_> {
-    fn faint(&self) -> bool {
+    pub fn faint(&self) -> bool {
         self.line.contains("stroke-dasharray")
     }
 }
 
 impl Picture {
-    fn obstacles(&self) -> Vec<Drawn<'_>> {
+    pub fn obstacles(&self) -> Vec<Drawn<'_>> {
         let (net, _) = self.parts();
         let is = |line: &str| line.starts_with("<rect") && line.contains("fill-opacity");
         let pairs = net.windows(2).filter(|pair| is(&pair[1]));
@@ -389,7 +414,7 @@ fn rectangle(line: &str) -> [f64; 4] {
     [left, top, left + width, top + height]
 }
 
-/// No rectangle of an obstacle holds a free point of a wire that it counts for.
+/// No rectangle of an obstacle holds a free point of a wire that it counts for, whatever the clearance.
 #[test]
 fn obstacles_cover_no_free_point() {
     let single = stored(
@@ -399,40 +424,68 @@ fn obstacles_cover_no_free_point() {
     let mut rectangles = 0;
     for name in [samples(), vec![single]].concat() {
         let net = sample(&name);
-        let free = free_points(&net);
-        let picture = Picture::new(&name, &["--limit=0"], &[]);
-        for obstacle in picture.obstacles() {
-            let [left, top, right, bottom] = obstacle.rectangle;
-            let highest = obstacle.named.map_or(16, |(_, layer)| layer);
-            let inside = |&&(layer, (x, y)): &&(u8, (f64, f64))| {
-                layer <= highest && left < x && x < right && top < y && y < bottom
-            };
-            assert_eq!(free.iter().find(inside), None, "{name}: {}", obstacle.line);
-            rectangles += 1;
+        for clearance in [0, 1, 6, 65535] {
+            let free = free_points(&net, clearance);
+            let options = ["--limit=0", &format!("--clearance={clearance}")];
+            let picture = Picture::new(&name, &options, &[]);
+            for obstacle in picture.obstacles() {
+                let [left, top, right, bottom] = obstacle.rectangle;
+                let highest = obstacle.named.map_or(16, |(_, layer)| layer);
+                let inside = |&&(layer, (x, y)): &&(u8, (f64, f64))| {
+                    layer <= highest && left < x && x < right && top < y && y < bottom
+                };
+                assert_eq!(free.iter().find(inside), None, "{name}: {}", obstacle.line);
+                rectangles += 1;
+            }
         }
     }
-    assert!(rectangles >= 15, "{rectangles}");
+    assert!(rectangles >= 68, "{rectangles}");
 }
 
-/// Does the obstacle hold a point inside the wire?
-fn holds(net: &Net, o: &Obstacle, i: usize) -> bool {
-    (1..net.length(i)).any(|t| {
-        let (x, y) = net.point(i, t);
-        o.x1 <= x && x <= o.x2 && o.y1 <= y && y <= o.y2
-    })
+/// Does the point lie in what the obstacle bars at the clearance?
+pub fn near(o: &Obstacle, (x, y): (u16, u16), clearance: u16) -> bool {
+    let outside =
+        |low: u16, high: u16, at: u16| low.saturating_sub(at).max(at.saturating_sub(high));
+    outside(o.x1, o.x2, x).max(outside(o.y1, o.y2, y)) <= clearance
 }
 
-/// In version 2 every obstacle has its layer on it, and is faint if it does not count for the stage's wires; in version 1 none has or is.
+/// The wires of the stage with a point inside them that the obstacle bars if it counts for them.
+fn near_wires(net: &Net, stage: u32, o: &Obstacle, clearance: u16) -> Vec<usize> {
+    let present = (1..net.nodes.len()).filter(|&i| net.present(stage, i));
+    let has = |&i: &usize| (1..net.length(i)).any(|t| near(o, net.point(i, t), clearance));
+    present.filter(has).collect()
+}
+
+/// The obstacle counts for a wire of the stage that it is near to, or, if there is none, for any wire of the stage.
+pub fn counts(net: &Net, stage: u32, o: &Obstacle, clearance: u16) -> bool {
+    let near = near_wires(net, stage, o, clearance);
+    let present = (1..net.nodes.len()).filter(|&i| net.present(stage, i));
+    let all = if near.is_empty() {
+        present.collect()
+    } else {
+        near
+    };
+    net.version == 1 || all.iter().any(|&i| net.wire(i).layer <= o.layer)
+}
+
+/// In version 2 every obstacle has its layer on it, and is faint if it does not count for the stage's wires at the clearance; in version 1 none has or is.
 #[test]
 fn layers_of_obstacles() {
     let mut random = Random::new(13);
-    // version 1; counts, with a point held and without; faint, with a point held and without
+    // version 1; counts, with a point near and without; faint, with a point near and without
     let mut seen = [0; 5];
-    for _ in 0..120 {
+    // faint at clearance 0 and not at another, and the other way round
+    let mut turned = [0; 2];
+    for _ in 0..300 {
         let net = generate::any_net(&mut random);
         let stage = generate::stage(&mut random, &net);
+        let clearance = random.pick(&[0, 0, 1, 3, 9, 65535]);
         let file = stored("layers.net", &net.file());
-        let options = ["--limit=9", &format!("--stage={stage}")];
+        let options = [
+            "--limit=9",
+            &format!("--stage={stage}"),
+            &format!("--clearance={clearance}"),
+        ];
         let picture = Picture::new(&file, &options, &[]);
         let drawn = picture.obstacles();
         let mut labels = picture.small_labels();
@@ -444,18 +497,13 @@ fn layers_of_obstacles() {
             };
             let own = &net.obstacles[number];
             assert_eq!((net.version, layer), (2, own.layer));
-            let present: Vec<usize> = (1..net.nodes.len())
-                .filter(|&i| net.present(stage, i))
-                .collect();
-            let held: Vec<usize> = present
-                .iter()
-                .copied()
-                .filter(|&i| holds(&net, own, i))
-                .collect();
-            let wires = if held.is_empty() { &present } else { &held };
-            let counts = wires.iter().any(|&i| net.wire(i).layer <= layer);
-            assert_eq!(obstacle.faint(), !counts, "{number} at stage {stage}");
-            seen[1 + 2 * usize::from(!counts) + usize::from(held.is_empty())] += 1;
+            let counted = counts(&net, stage, own, clearance);
+            assert_eq!(obstacle.faint(), !counted, "{number} at stage {stage}");
+            let none = near_wires(&net, stage, own, clearance).is_empty();
+            seen[1 + 2 * usize::from(!counted) + usize::from(none)] += 1;
+            if counted != counts(&net, stage, own, 0) {
+                turned[usize::from(!counted)] += 1;
+            }
             // labels are in the order of their obstacles
             let (text, middle) = labels.remove(0);
             assert_eq!(text, format!("L{layer}"));
@@ -469,6 +517,7 @@ fn layers_of_obstacles() {
         assert_eq!(said, drawn.iter().any(|obstacle| obstacle.faint()));
     }
     assert!(seen.iter().all(|&n| n > 5), "{seen:?}");
+    assert!(turned.iter().all(|&n| n > 2), "{turned:?}");
 }
 
 /// The middle of each cross, and of each gate with half its width.
@@ -500,7 +549,7 @@ fn crosses_and_gates(picture: &Picture) -> (Vec<(f64, f64, f64)>, Vec<(f64, f64,
 /// A jumper one step from each gate, where none is barred.
 fn beside_gates(name: &str) -> String {
     let net = sample(name);
-    let wires = (1..net.nodes.len()).filter(|&i| net.gate(i) && !net.barred(i, 1));
+    let wires = (1..net.nodes.len()).filter(|&i| net.gate(i) && !net.barred(i, 1, 0));
     wires.map(|i| format!("{i} 1\n")).collect()
 }
 
@@ -548,22 +597,31 @@ fn crosses_hide_no_gate() {
     assert!(crosses_in_all > 100, "{crosses_in_all}");
 }
 
-/// A cross that would lie on a gate moves along its wire, over an obstacle that does not count for the wire too; where one counts it stands beside the wire.
+/// A cross that would lie on a gate moves along its wire, over an obstacle that does not count for the wire too; where one that counts bars points it stands beside the wire.
 #[test]
 fn crosses_at_straps() {
-    for (layer, along) in [(2, true), (3, false), (4, false)] {
+    for (corners, layer, clearance, along) in [
+        ("190 0 to 198 0", 2, 0, true),
+        ("190 0 to 198 0", 3, 0, false),
+        ("190 0 to 198 0", 4, 0, false),
+        ("190 5 to 193 9", 3, 4, true),
+        ("190 5 to 193 9", 3, 5, false),
+        ("190 5 to 193 9", 2, 5, true),
+    ] {
         let net = format!(
-            "version 2\nnode 0 at 0 0 gate\nnode 1 at 200 0 gate\nwire 1 to 0 layer 3 factor 1\nobstacle 190 0 to 198 0 layer {layer}\n"
+            "version 2\nnode 0 at 0 0 gate\nnode 1 at 200 0 gate\nwire 1 to 0 layer 3 factor 1\nobstacle {corners} layer {layer}\n"
         );
         let net = stored("moved.net", net.as_bytes());
-        let picture = Picture::new(&net, &["--limit=200"], b"1 1\n");
+        let options = ["--limit=200", &format!("--clearance={clearance}")];
+        let picture = Picture::new(&net, &options, b"1 1\n");
         let (crosses, gates) = crosses_and_gates(&picture);
         let [(x, y, _)] = crosses[..] else {
             panic!("{} crosses", crosses.len())
         };
         let (gate_x, gate_y, _) = gates[1];
-        assert_eq!((y - gate_y).abs() < 0.2, along, "layer {layer}");
-        assert_eq!(gate_x - x > 10.0, along, "layer {layer}");
+        let case = format!("layer {layer}, clearance {clearance}");
+        assert_eq!((y - gate_y).abs() < 0.2, along, "{case}");
+        assert_eq!(gate_x - x > 10.0, along, "{case}");
     }
 }
 
@@ -577,6 +635,13 @@ fn pictures_of_readme() {
         (
             "straps",
             Picture::repaired("straps.net", &["--stage", "3", "--limit", "60"]),
+        ),
+        (
+            "clearance",
+            Picture::repaired(
+                "clearance.net",
+                &["--stage", "3", "--limit", "100", "--clearance", "10"],
+            ),
         ),
     ] {
         let kept = std::fs::read_to_string(root().join(format!("docs/{name}.svg"))).unwrap();

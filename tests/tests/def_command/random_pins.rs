@@ -116,7 +116,7 @@ fn as_barred(case: &Case, net: &Net, what: &str) -> [usize; 2] {
     for i in 1..net.nodes.len() {
         for t in 1..net.length(i) {
             let (x, y) = net.point(i, t);
-            let barred = net.barred(i, t);
+            let barred = net.barred(i, t, 0);
             assert_eq!(barred, case.barred(x, y), "{what}: {x} {y}");
             counts[usize::from(barred)] += 1;
         }

@@ -15,4 +15,6 @@ pub loop-k-preserved : goal.loop-k-preserved
 loop-k-preserved c =
     let a = c.args in
     let l = c.loop-k in
-    written_next (obstacle_bytes newest) (λ j. prepared_record a.version a.obstacles.now j) (λ j. refl) l.k _ a.out.now _ _ refl (omega arith) l.invariant c.prepare_one.ensures
+    let o = c.obstacle_at.ensures in
+    written_next (obstacle_bytes newest) (λ j. prepared_record a.version a.clearance a.obstacles.now j) (λ j. refl) l.k _ a.out.now _ _ refl (omega arith) l.invariant
+    (rw (c.grown-obstacle.ensures, o.x1, o.y1, o.x2, o.y2, o.layer) at c.write_obstacle.ensures)

@@ -7,4 +7,4 @@ use Rattle.obstacles.specs.Prepared.{prepared_record}
 use Rattle.obstacles.proofs.prepare.Given as goal
 
 abbrev pub invariant-loop-k : goal.invariant-loop-k
-invariant-loop-k l = l.out ≡ over (gather l.k (λ j. prepared_record l.version l.obstacles j)) l.initial.out
+invariant-loop-k l = l.out ≡ over (gather l.k (λ j. prepared_record l.version l.clearance l.obstacles j)) l.initial.out

@@ -5,4 +5,4 @@ use Rattle.points.specs.Lines.{point_on, bars}
 use Rattle.points.proofs.first_barring.Given as goal
 
 abbrev pub invariant-loop-k : goal.invariant-loop-k
-invariant-loop-k l = (j : ℕ) → j < l.k → bars newest l.obstacles l.line.layer j (point_on l.line l.t).x (point_on l.line l.t).y ≡ false
+invariant-loop-k l = (j : ℕ) → j < l.k → bars newest 0 l.obstacles l.line.layer j (point_on l.line l.t).x (point_on l.line l.t).y ≡ false

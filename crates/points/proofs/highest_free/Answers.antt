@@ -5,7 +5,7 @@ use Rattle.points.specs.Lines.{barred_at, reaches_less, leap_down}
 use Rattle.points.proofs.highest_free.Goals as goal
 
 leap : (c : goal.After-last_below-t) →
-    (c.last_below-t.result < c.loop-t.t) × ((s : ℕ) → c.last_below-t.result < s → s ≤ c.args.last → barred_at newest c.args.obstacles.now c.args.line s ≡ true)
+    (c.last_below-t.result < c.loop-t.t) × ((s : ℕ) → c.last_below-t.result < s → s ≤ c.args.last → barred_at newest 0 c.args.obstacles.now c.args.line s ≡ true)
 leap c =
     leap_down c.args.obstacles.now c.args.line c.loop-t.t c.in-Some.ensures
     c.loop-t-test.true

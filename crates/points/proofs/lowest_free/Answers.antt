@@ -5,7 +5,7 @@ use Rattle.points.specs.Lines.{barred_at, reaches_less, leap_up}
 use Rattle.points.proofs.lowest_free.Goals as goal
 
 leap : (c : goal.After-first_above-t) →
-    (c.loop-t.t < c.first_above-t.result) × ((s : ℕ) → c.args.first ≤ s → s < c.first_above-t.result → barred_at newest c.args.obstacles.now c.args.line s ≡ true)
+    (c.loop-t.t < c.first_above-t.result) × ((s : ℕ) → c.args.first ≤ s → s < c.first_above-t.result → barred_at newest 0 c.args.obstacles.now c.args.line s ≡ true)
 leap c =
     leap_up c.args.obstacles.now c.args.line c.loop-t.t c.in-Some.ensures
     c.loop-t-test.true

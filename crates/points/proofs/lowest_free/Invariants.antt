@@ -5,7 +5,7 @@ use Rattle.points.specs.Lines.{barred_at}
 use Rattle.points.proofs.lowest_free.Given as goal
 
 abbrev pub invariant-loop-t : goal.invariant-loop-t
-invariant-loop-t l = (l.first ≤ l.t) × ((s : ℕ) → l.first ≤ s → s < l.t → barred_at newest l.obstacles l.line s ≡ true)
+invariant-loop-t l = (l.first ≤ l.t) × ((s : ℕ) → l.first ≤ s → s < l.t → barred_at newest 0 l.obstacles l.line s ≡ true)
 
 abbrev pub decreases-loop-t : goal.decreases-loop-t
 decreases-loop-t l = l.end - l.t

@@ -4,7 +4,7 @@ use Rattle.std.proofs.Common.{◌*◌, refl, sym, ◌∙◌, rules, arith}
 use Rattle.net.specs.Layout.{entry_bytes}
 use Rattle.net.specs.declared.refusal.Refusal.TheVariants.{NoLegalSet, LentBuffer}
 use Rattle.net.specs.Answered.{answered_err, answered_ok}
-use Rattle.net.specs.Stage.{stage_of}
+use Rattle.net.specs.NoClearance.{stage_of}
 use Rattle.std.proofs.lemmas.List.{length-map}
 use Rattle.clusters.specs.Positions.{hi_of, position_of}
 use Rattle.clusters.specs.FitsLaws.{wired_of}

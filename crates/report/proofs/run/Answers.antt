@@ -8,7 +8,7 @@ use Rattle.report.proofs.run.Goals as goal
 pub print_answer-requires : goal.print_answer-requires
 print_answer-requires g c =
     let a = c.antenna_report-answer in
-    IfOk-weaker a.result _ _ (λ n room. omega (arith, room)) (records-room _ _ _ _ a.result a.ensures.0)
+    IfOk-weaker a.result _ _ (λ n room. omega (arith, room)) (records-room _ _ _ _ _ a.result a.ensures.0)
 
 pub returns : goal.returns
 returns g c =

@@ -1,7 +1,7 @@
 -- `clusters::cuttable::find_cuttable` meets its contract: below i the array has the lowest and the highest positions. Assumes nothing.
 use Rattle.std.proofs.Common.{None, arith}
 use Rattle.std.proofs.Math.ListN.{get_or-map}
-use Rattle.net.specs.Stage.{stage_of}
+use Rattle.net.specs.NoClearance.{stage_of}
 use Rattle.clusters.specs.Positions.{lo_of, hi_of}
 use Rattle.clusters.proofs.cuttable.find_cuttable.Goals as goal
 

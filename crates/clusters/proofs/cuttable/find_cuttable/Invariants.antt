@@ -1,7 +1,7 @@
 -- `clusters::cuttable::find_cuttable` meets its contract: below i the arrays have the lowest and the highest positions. Assumes nothing.
 use Rattle.std.proofs.Common.{ℕ, ◌<◌, None, get_or}
 use Rattle.net.specs.Layout.{newest}
-use Rattle.net.specs.Stage.{stage_of}
+use Rattle.net.specs.NoClearance.{stage_of}
 use Rattle.clusters.specs.Positions.{lo_of, hi_of}
 use Rattle.clusters.specs.FirstPasses.{LowestFree, HighestFree}
 use Rattle.clusters.proofs.cuttable.find_cuttable.Given as goal

@@ -7,7 +7,7 @@ use Rattle.net.specs.Refusal.{refusal}
 use Rattle.net.specs.Numbers.{checked}
 use Rattle.net.specs.First.{first_more, first-here}
 use Rattle.net.specs.Answered.{met_refusal}
-use Rattle.net.specs.AcceptedNet.{stage_of_net}
+use Rattle.net.specs.AcceptedNet.{stage_of_net_under}
 use Rattle.pieces.specs.Legal.{entry_wire, entry_position, after}
 use Rattle.pieces.specs.JumperList.{point_refusal, entry_refusal}
 use Rattle.lists.specs.EntriesChecked.{wires-checked, wire-stored, present-checked, no_wire, absent_wire, position_point, at_node, after-higher, after_lower, after-behind, after_not_behind, entry_not_after, entry_point}
@@ -27,11 +27,11 @@ of_wire-line-requires c = length_of-length-requires (goal.at.of_wire-line-requir
 pub returns-then-node_count-i : goal.returns-then-node_count-i
 returns-then-node_count-i c =
     let a = c.args in
-    let s = stage_of_net a.net a.stage in
+    let s = stage_of_net_under a.net a.clearance a.stage in
     let on_wire : refusal 13 a.e ≡ point_refusal s c.entry_wire-i.result (entry_position a.list.now a.e) a.e =
     elim c.then-node_count-i.branch [
-      | then-node_count-i-via-then-node_count-i w ↦ no_wire _ _ _ _ _ _ _ _ (omega arith)
-      | then-node_count-i-via-else-node_count-i+then-not-is_present w ↦ absent_wire _ _ _ _ _ _ _ _ (omega arith) (sym w.if-not-is_present.ensures)
+      | then-node_count-i-via-then-node_count-i w ↦ no_wire _ _ _ _ _ _ _ _ _ (omega arith)
+      | then-node_count-i-via-else-node_count-i+then-not-is_present w ↦ absent_wire _ _ _ _ _ _ _ _ _ (omega arith) (sym w.if-not-is_present.ensures)
     ] in
     first-here _ _ _ c.requires.0 c.requires.1.accepted (rw c.entry_wire-i.ensures at on_wire ∙ entry_point s a.list.now a.e (c.requires.1.stands c.requires.0)) refl
 
@@ -56,8 +56,8 @@ returns-then-before-eq0 c =
     let d = c.loop-d.d in
     let here : d ≡ a.e = grind (arith, v.behind) in
     let stands : true ≡ (eqb d 0 || after a.list.now (d - 1) d) = rw here (c.requires.1.stands c.requires.0) in
-    let s = stage_of_net a.net a.stage in
-    let outside : refusal 13 d ≡ point_refusal s (entry_wire a.list.now d) (entry_position a.list.now d) d = at_node _ _ _ _ _ _ _ _ (omega arith) in
+    let s = stage_of_net_under a.net a.clearance a.stage in
+    let outside : refusal 13 d ≡ point_refusal s (entry_wire a.list.now d) (entry_position a.list.now d) d = at_node _ _ _ _ _ _ _ _ _ (omega arith) in
     first-here _ _ _ (omega arith) v.accepted (outside ∙ entry_point s a.list.now d stands) refl
 
 pub returns-else-before-eq0 : goal.returns-else-before-eq0
@@ -68,7 +68,7 @@ returns-else-before-eq0 c =
     first-here _ _ _ (omega arith) v.accepted (entry_not_after _ _ _ (after_not_behind _ _ (omega arith) (omega arith) (omega arith))) refl
 
 -- an entry of the row behind position `before` stands after the one before it, and what is judged is its point
-judged : (c : After-position_refusal) → checked c.position_refusal.result ≡ entry_refusal (stage_of_net c.args.net c.args.stage) c.args.list.now c.loop-d.d
+judged : (c : After-position_refusal) → checked c.position_refusal.result ≡ entry_refusal (stage_of_net_under c.args.net c.args.clearance c.args.stage) c.args.list.now c.loop-d.d
 judged c =
     let a = c.args in
     let v = c.loop-d.invariant in
@@ -78,7 +78,7 @@ judged c =
     (λ y. let behind = v.behind (ltb-true _ _ y) in after-behind _ _ (omega (arith, ltb-true _ _ y)) (omega arith) (omega arith))
     (λ n. let here : d ≡ a.e = omega (arith, ltb-false _ _ n) in rw here (c.requires.1.stands c.requires.0)) in
     (rw (c.of_wire-line.ensures.line, c.length_of-length.ensures.0) at c.position_refusal.ensures)
-    ∙ position_point a.net.version a.net.nodes.now a.net.wires.now a.net.obstacles.now a.stage c.entry_wire-i.result c.entry_position-t.result d (omega arith) (sym c.if-not-is_present.ensures)
+    ∙ position_point a.net.version a.clearance a.net.nodes.now a.net.wires.now a.net.obstacles.now a.stage c.entry_wire-i.result c.entry_position-t.result d (omega arith) (sym c.if-not-is_present.ensures)
     ∙ (let on : c.entry_wire-i.result ≡ entry_wire a.list.now d = omega arith in rw (on, c.entry_position-t.ensures) (entry_point _ a.list.now d stands))
 
 pub returns-in_err-position_refusal : goal.returns-in_err-position_refusal
