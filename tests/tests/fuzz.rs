@@ -35,13 +35,14 @@ fn corpus() {
     let folder = Path::new(env!("CARGO_MANIFEST_DIR")).join("corpus");
     let mut count = 0;
     let mut met: BTreeMap<(u8, u32), BTreeSet<u32>> = BTreeMap::new();
+    let mut with_clearance = BTreeSet::new();
     for entry in std::fs::read_dir(folder).unwrap() {
         let path = entry.unwrap().path();
         let Made {
             call,
             version,
+            clearance,
             answer,
-            ..
         } = one(&std::fs::read(&path).unwrap());
         let name = path.file_name().unwrap().to_str().unwrap();
         if let Some(named) = by_name(name) {
@@ -50,12 +51,21 @@ fn corpus() {
         if name.contains("-version-2-") {
             assert_eq!(version, 2, "{name}");
         }
+        if name.contains("-clearance-") {
+            assert!(clearance > 0, "{name}");
+        }
+        if clearance > 0 {
+            with_clearance.insert((call, answer.number));
+        }
         met.entry((call, version))
             .or_default()
             .insert(answer.number);
         count += 1;
     }
     assert!(count > 50);
+    // report's 16 comes behind its 14
+    let judged = BTreeSet::from([(2, 0), (2, 14), (2, 16), (3, 0), (3, 15)]);
+    assert!(with_clearance.is_superset(&judged), "{with_clearance:?}");
     for call in 0..5 {
         for version in [1, 2] {
             let met = met.remove(&(call, version)).unwrap_or_default();
