@@ -86,7 +86,7 @@ and pack the text.
 ";
 
 pub const DEF: &str = "\
-antenna def FILE [-o DIR] [--grid N] [--pins FILE] [--obstacles FILE] [--text]
+antenna def FILE [-o DIR] [--grid N] [--pins FILE] [--obstacles FILE [--clearance C]] [--text]
 
 Reads the nets of a DEF file as routers write it, or in the library's own form, and prints a line for each. A net that is not read
 is named with its line, column and reason, and the others are read. A note tells of a via that stands one step beside its point,
@@ -96,9 +96,10 @@ because the library's form cannot say two changes of layer there: one point of e
   --grid N         a step is N units of FILE, and every coordinate a multiple of N
   --pins FILE      a line 'pin NET at X Y LAYER' for each, then 'gate' and 'source' where they hold; without pins no net has a gate
   --obstacles FILE a line 'obstacle X1 Y1 to X2 Y2' for each; they bar points of every wire (net files of version 1; 'antenna
-                   unpack --help' says how to give them layers). A net gets those that hold a point of one of its wires.
-                   Those beside its wires, which a clearance counts too, are left out: to keep a clearance, make every
-                   obstacle here larger by it on each side, and give 'repair' and the others no --clearance
+                   unpack --help' says how to give them layers). A net gets those that hold a point of one of its wires
+  --clearance C    units of FILE to keep free round obstacles, 0 to 2147483647; default 0. Every obstacle is made larger by C on
+                   each side before it is decided which nets get it. Give 'repair' and the others no --clearance for these nets:
+                   they would keep that much more, round the obstacles that the net has
   --text           prints the nets that are read in the library's form
 Pins and obstacles have the coordinates of FILE. All nets are moved alike: the lower left corner of the die area becomes 0 0.
 Exit status 2 if a net is not read; a note does not change it.

@@ -5,6 +5,10 @@ use crate::words::{count, number, Failure};
 
 pub const DEFAULT_STAGE: u32 = 16;
 
+/// The greatest clearance in steps, and in units of a DEF file, whose coordinates are of 32 bits.
+const MOST_STEPS: u32 = u16::MAX as u32;
+const MOST_UNITS: u32 = i32::MAX as u32;
+
 #[derive(Default)]
 pub struct Options {
     pub nets: Vec<String>,
@@ -12,7 +16,7 @@ pub struct Options {
     pub jumpers: Vec<String>,
     stage: Option<u32>,
     limit: Option<u32>,
-    clearance: Option<u16>,
+    clearance: Option<u32>,
     pub json: bool,
     pub out: Option<String>,
     grid: Option<u32>,
@@ -44,11 +48,11 @@ impl Options {
                 "-o" => "--output",
                 _ => name,
             };
-            if !command.options.contains(&name) {
+            if !command.takes(name) {
                 let message = format!("'{}' takes no option '{word}'", command.name);
                 return Err(Failure::Usage(message));
             }
-            options.set(name, value, || words.next().map(String::as_str))?;
+            options.set(command, name, value, || words.next().map(String::as_str))?;
         }
         options.fit(command)?;
         Ok(Some(options))
@@ -56,6 +60,7 @@ impl Options {
 
     fn set<'a>(
         &mut self,
+        command: &Command,
         name: &str,
         value: Option<&'a str>,
         next: impl FnOnce() -> Option<&'a str>,
@@ -84,8 +89,9 @@ impl Options {
             "--limit" => self.limit.replace(up_to(u32::MAX)?).is_some(),
             "--stage" => self.stage.replace(up_to(u32::MAX)?).is_some(),
             "--clearance" => {
-                let clearance = up_to(u16::MAX.into())? as u16;
-                self.clearance.replace(clearance).is_some()
+                let in_units = command.takes("--obstacles");
+                let most = if in_units { MOST_UNITS } else { MOST_STEPS };
+                self.clearance.replace(up_to(most)?).is_some()
             }
             "--output" => self.out.replace(value.into()).is_some(),
             "--grid" => self.grid.replace(up_to(u32::MAX)?).is_some(),
@@ -114,6 +120,11 @@ impl Options {
             format!("{lists} for {nets}: name one for all, or one for each")
         } else if self.grid == Some(0) {
             "--grid is at least 1".into()
+        } else if self.clearance.is_some()
+            && command.takes("--obstacles")
+            && self.obstacles.is_none()
+        {
+            "--clearance wants obstacles: --obstacles FILE".into()
         } else if command.wants_list && lists == 0 {
             format!("'{}' wants a jumper list: --jumpers FILE", command.name)
         } else if self
@@ -137,8 +148,14 @@ impl Options {
         self.stage.unwrap_or(DEFAULT_STAGE)
     }
 
+    /// In steps.
     pub fn clearance(&self) -> u16 {
-        self.clearance.unwrap_or(0)
+        self.clearance.unwrap_or(0) as u16
+    }
+
+    /// In units of the file.
+    pub fn clearance_in_units(&self) -> i64 {
+        self.clearance.unwrap_or(0).into()
     }
 
     /// The units of the file in a step.

@@ -124,7 +124,7 @@ fn refusal(answer: Answer) -> String {
         ),
         library::REFUSED_OBSTACLE_SECTION => (
             "there are over 256 obstacles, or they are not of 8 bytes each in version 1, of 9 in version 2".into(),
-            "merge obstacles, or leave out those off the net; if only the version was changed, write the file anew",
+            "merge obstacles, leave out those off the net, or lower the clearance if they were grown by one; if only the version was changed, write the file anew",
         ),
         library::REFUSED_NODE_FLAGS => (
             format!("node {place}: its flags are over 3"),

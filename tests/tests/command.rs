@@ -399,6 +399,7 @@ fn options_of_each_command() {
                 "--grid",
                 "--pins",
                 "--obstacles",
+                "--clearance",
                 "--text",
             ],
         ),
@@ -514,6 +515,34 @@ fn values_of_options() {
             "--pins is given twice",
         ),
         (&["def", "a.def", "--text=yes"], "--text takes no value"),
+        (
+            &["def", "a.def", "--clearance=3"],
+            "--clearance wants obstacles: --obstacles FILE",
+        ),
+        (
+            &["def", "a.def", "--pins=x", "--clearance=0"],
+            "--clearance wants obstacles: --obstacles FILE",
+        ),
+        (
+            &["def", "a.def", "--obstacles=x", "--clearance=2147483648"],
+            "--clearance wants a number: '2147483648' is no number from 0 to 2147483647",
+        ),
+        (
+            &["def", "a.def", "--obstacles=x", "--clearance=-1"],
+            "--clearance wants a number: '-1' is no number from 0 to 2147483647",
+        ),
+        (
+            &["def", "a.def", "--obstacles=x", "--clearance=1.5"],
+            "--clearance wants a number",
+        ),
+        (
+            &["def", "a.def", "--obstacles=x", "--clearance"],
+            "--clearance wants a value",
+        ),
+        (
+            &["def", "--obstacles=x", "--clearance=1", "--clearance=1"],
+            "--clearance is given twice",
+        ),
         (
             &["def", "-", "--obstacles=-"],
             "standard input can be read only once",

@@ -6,6 +6,8 @@ mod bar;
 mod beside;
 #[path = "def_command/case.rs"]
 mod case;
+#[path = "def_command/clearance.rs"]
+mod clearance;
 #[path = "def_command/damaged.rs"]
 mod damaged;
 #[path = "def_command/folder.rs"]

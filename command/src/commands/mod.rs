@@ -23,6 +23,12 @@ pub struct Command {
     pub run: fn(&Options) -> Result<u8, Failure>,
 }
 
+impl Command {
+    pub fn takes(&self, option: &str) -> bool {
+        self.options.contains(&option)
+    }
+}
+
 pub const COMMANDS: [Command; 7] = [
     Command {
         name: "report",
@@ -75,7 +81,14 @@ pub const COMMANDS: [Command; 7] = [
     Command {
         name: "def",
         help: help::DEF,
-        options: &["--grid", "--obstacles", "--output", "--pins", "--text"],
+        options: &[
+            "--clearance",
+            "--grid",
+            "--obstacles",
+            "--output",
+            "--pins",
+            "--text",
+        ],
         most: 1,
         wants_list: false,
         run: def::def,

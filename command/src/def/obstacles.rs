@@ -8,8 +8,9 @@ use crate::words::Refusal;
 /// In steps: the corner with the least x and y, and the other.
 pub struct Obstacle(Point, Point);
 
-/// The obstacles of the file named that hold a point of the grid. They are rounded to it inwards: jumpers stand nowhere else.
-pub fn load(name: &str, scale: &Scale) -> Result<Vec<Obstacle>, Refusal> {
+/// The obstacles of the file named, each larger by the clearance on each side, that then hold a point of the grid. They are rounded
+/// to it inwards: jumpers stand nowhere else.
+pub fn load(name: &str, clearance: i64, scale: &Scale) -> Result<Vec<Obstacle>, Refusal> {
     let mut obstacles = Vec::new();
     each_line(name, |_, words| {
         let ["obstacle", x1, y1, "to", x2, y2] = words else {
@@ -20,8 +21,8 @@ pub fn load(name: &str, scale: &Scale) -> Result<Vec<Obstacle>, Refusal> {
         if x1 > x2 || y1 > y2 {
             return Err("its corners are reversed".into());
         }
-        let x = scale.held(x1, x2, scale.corner.x);
-        let y = scale.held(y1, y2, scale.corner.y);
+        let x = scale.held(x1 - clearance, x2 + clearance, scale.corner.x);
+        let y = scale.held(y1 - clearance, y2 + clearance, scale.corner.y);
         if let (Some((x1, x2)), Some((y1, y2))) = (x, y) {
             obstacles.push(Obstacle(Point { x: x1, y: y1 }, Point { x: x2, y: y2 }));
         }

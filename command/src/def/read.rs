@@ -36,7 +36,8 @@ impl Reader {
         let scale = Scale::of(file, options.grid());
         let pins = options.pins.as_deref().map(Pins::load);
         let obstacles = options.obstacles.as_deref();
-        let obstacles = obstacles.map(|name| obstacles::load(name, &scale));
+        let clearance = options.clearance_in_units();
+        let obstacles = obstacles.map(|name| obstacles::load(name, clearance, &scale));
         Ok(Reader {
             scale,
             pins: pins.transpose()?.unwrap_or_default(),

@@ -17,13 +17,15 @@ pub struct Case {
     pub text: String,
     pub nets: Vec<(Metal, Vec<Pin>)>,
     pub obstacles: Vec<Obstacle>,
+    clearance: i64,
     /// Where the net files are.
     pub folder: PathBuf,
     pub ran: Ran,
 }
 
 impl Case {
-    pub fn run(random: &mut Random) -> Case {
+    /// The folder has this name; without a clearance the command is given none.
+    pub fn run(random: &mut Random, folder: &str, clearance: Option<i64>) -> Case {
         let grid = Grid::of(random);
         let paths: Vec<Vec<String>> = (0..100).map(|_| net(random)).collect();
         let text = grid.text(&text_of(&paths));
@@ -34,35 +36,39 @@ impl Case {
         };
         let nets: Vec<(Metal, Vec<Pin>)> = paths.iter().map(with_pins).collect();
         let obstacles: Vec<Obstacle> = (0..20).map(|_| obstacle(random, grid)).collect();
-        let folder = folder_of("random-pins");
+        let folder = folder_of(folder);
         let stored = |name: &str, text: String| {
             fs::create_dir_all(&folder).unwrap();
             fs::write(folder.join(name), text).unwrap();
             format!("--{name}={}", folder.join(name).display())
         };
-        let words = [
+        let mut words = vec![
             stored("pins", pin_lines(&nets, grid)),
             stored("obstacles", obstacle_lines(&obstacles)),
             format!("--output={}", folder.display()),
             format!("--grid={}", grid.step),
             "-".into(),
         ];
-        let ran = antenna(&words.each_ref().map(String::as_str), text.as_bytes());
+        words.extend(clearance.map(|clearance| format!("--clearance={clearance}")));
+        let words: Vec<&str> = words.iter().map(String::as_str).collect();
+        let ran = antenna(&words, text.as_bytes());
         Case {
             grid,
             text,
             nets,
             obstacles,
+            clearance: clearance.unwrap_or(0),
             folder,
             ran,
         }
     }
 
-    /// Does an obstacle hold a point, which is in steps?
+    /// Is a point, which is in steps, at most the clearance outside an obstacle in x, and at most that far outside it in y?
     pub fn barred(&self, x: u16, y: u16) -> bool {
         let (x, y) = self.grid.point((x.into(), y.into()));
+        let near = |low: i64, high: i64, at: i64| (low - at).max(at - high) <= self.clearance;
         let mut obstacles = self.obstacles.iter();
-        obstacles.any(|&[x1, y1, x2, y2]| (x1..=x2).contains(&x) && (y1..=y2).contains(&y))
+        obstacles.any(|&[x1, y1, x2, y2]| near(x1, x2, x) && near(y1, y2, y))
     }
 }
 

@@ -15,7 +15,7 @@ fn pins_and_obstacles() {
     let mut met: BTreeMap<Meets, usize> = BTreeMap::new();
     let mut points = [0; 2];
     for seed in 0..30 {
-        let case = Case::run(&mut Random::new(1000 + seed));
+        let case = Case::run(&mut Random::new(1000 + seed), "random-pins", None);
         for (k, (metal, pins)) in case.nets.iter().enumerate() {
             let name = format!("n{k}");
             let what = format!("{seed}: {name}");
@@ -110,8 +110,8 @@ fn nodes_at_pins(case: &Case, k: usize, net: &Net, what: &str) {
     lost_as_noted(points, &inside, &notes, what);
 }
 
-/// A point is barred in the net file if and only if an obstacle of the text holds it; how many are free, how many barred.
-fn as_barred(case: &Case, net: &Net, what: &str) -> [usize; 2] {
+/// A point is barred in the net file if and only if it is by the obstacles of the text; how many are free, how many barred.
+pub fn as_barred(case: &Case, net: &Net, what: &str) -> [usize; 2] {
     let mut counts = [0; 2];
     for i in 1..net.nodes.len() {
         for t in 1..net.length(i) {
