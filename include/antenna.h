@@ -140,9 +140,14 @@ antenna_answer antenna_write(uint32_t version,
  * clearance and y <= y2 + clearance, in whole numbers, so that nothing wraps.
  * With 0 an obstacle bars just the points it holds, its border included. Which
  * points are barred is all that a clearance changes: 14 here, 15 and the list
- * of antenna_repair. A program made for a header before 0.6 passes 0 and has
- * the answers that it had. A wider number is to be tested before the call: C
- * passes 65536 as 0.
+ * of antenna_repair. A point just so far outside is barred: a rule by which s
+ * steps between a jumper's edge and its neighbour are enough is clearance
+ * s + h - 1, h being the jumper's half width. A wider number is to be tested
+ * before the call: C passes 65536 as 0.
+ * A program made for a header before 0.6 is changed to pass 0, and has the
+ * answers that it had. What was compiled with such a header must not be linked
+ * with this library: nothing would tell, and the file would be taken for the
+ * clearance.
  *
  * Jumper list: wire (8 bits), position (16 bits) each, strictly rising by
  * wire, then position. Position t lies t steps from node i towards its parent.

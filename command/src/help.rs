@@ -57,7 +57,7 @@ antenna draw NET --limit L [--stage S] [--clearance C] [--jumpers FILE] [-o FILE
 
 Draws the net as SVG: wires coloured by layer, vias, harmful pieces with their weights, gates, sources, obstacles, jumpers. Wires
 that the stage does not have are broken lines. Obstacles of version 2 have their layer on them (L3 is layer 3) and are faint if they
-do not count for the stage's wires. Round the others a clearance above 0 is drawn as a border.
+do not count for the stage's wires. Round the others the area that a clearance above 0 keeps free is drawn.
 Of more than 510 jumpers, the most that a smallest set can have, none has a label.
   --clearance C    as in 'report'
   --jumpers FILE   as in 'report'

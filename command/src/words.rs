@@ -124,7 +124,7 @@ fn refusal(answer: Answer) -> String {
         ),
         library::REFUSED_OBSTACLE_SECTION => (
             "there are over 256 obstacles, or they are not of 8 bytes each in version 1, of 9 in version 2".into(),
-            "merge obstacles, leave out those off the net, or lower the clearance if they were grown by one; if only the version was changed, write the file anew",
+            "merge obstacles, leave out those off the net, or lower the --clearance of 'antenna def' if it made them larger; if only the version was changed, write the file anew",
         ),
         library::REFUSED_NODE_FLAGS => (
             format!("node {place}: its flags are over 3"),
@@ -159,7 +159,7 @@ fn refusal(answer: Answer) -> String {
             "positions run from 1 to the wire's length less 1",
         ),
         library::REFUSED_JUMPER_BARRED => (
-            format!("jumper {place}: an obstacle holds this point, or is within the clearance of it in x and in y"),
+            format!("jumper {place}: an obstacle that counts for its wire holds this point, or is within the clearance of it in x and in y"),
             "move the jumper along the wire",
         ),
         library::REFUSED_NO_LEGAL_SET => (

@@ -24,7 +24,7 @@ use Rattle.lists.specs.EntriesChecked.{list_none}
 
 -- a call that meets none of 1 to 11 and 20: the net is formed
 pub call_formed : (stage clearance : ℕ) (file : List ℕ) → met (call_refusal stage file) ≡ false → Formed (net_at file stage clearance)
-call_formed stage clearance file u = formed_under (version_of file) (nodes_of file) (wires_of file) (obstacles_of file) (call_right stage file u) clearance stage
+call_formed stage clearance file u = formed_under (version_of file) (nodes_of file) (wires_of file) (obstacles_of file) (call_right stage file u) stage clearance
 
 -- a refusal that is not met has number 0
 unmet-zero : (r : Verdict) → met r ≡ false → r.number ≡ 0

@@ -16,7 +16,7 @@ use Rattle.lists.specs.Entries.{listed-yes}
 use Rattle.small_nets.specs.Cases.{Least, A, nodes_a, wires_a, nodes_j, wires_j, nodes_c, wires_c, bar}
 use Rattle.small_nets.specs.Shown.{small_nets}
 use Rattle.small_nets.specs.Layered.{layered_bar, layered_nets}
-use Rattle.small_nets.specs.Clear.{beside, clear_nets}
+use Rattle.small_nets.specs.Clearances.{beside, clearance_nets}
 use Rattle.pieces.specs.SmallestSet.{smallest-size}
 use Rattle.repairs.specs.Promise.{Judged, no_legal_set, too_short, done, Repaired}
 
@@ -212,23 +212,28 @@ module _ {out after : List ℕ} {r : Answer} where
 
   -- not a clearance that is strict, or moves sides out in y alone: under clearance 1 the obstacle leaves one of the two points that one jumper needs, under 2 none
   pub held_1 : Repaired 1 7 1 file_held out after r → 3 ≤ length out → r ≡ answer none 1
-  unfolding file_held file_of head_of pairs_right stretch stage_refusal read_refusal is_version head_refusal pairs_refusal net_refusal sections_refusal node_refusal wire_refusal obstacle_refusal first_of section_of stage_of
-  held_1 p fits = answer-least clear_nets.held_1 (p.judged refl) fits
+  unfolding file_held file_of head_of pairs_right stretch stage_refusal read_refusal is_version head_refusal pairs_refusal net_refusal sections_refusal node_refusal wire_refusal obstacle_refusal first_of section_of
+  held_1 p fits = answer-least clearance_nets.held_1 (p.judged refl) fits
 
   pub held_2 : Repaired 1 7 2 file_held out after r → 6 ≤ length out → r ≡ answer none 2
-  unfolding file_held file_of head_of pairs_right stretch stage_refusal read_refusal is_version head_refusal pairs_refusal net_refusal sections_refusal node_refusal wire_refusal obstacle_refusal first_of section_of stage_of
-  held_2 p fits = answer-least clear_nets.held_2 (p.judged refl) fits
+  unfolding file_held file_of head_of pairs_right stretch stage_refusal read_refusal is_version head_refusal pairs_refusal net_refusal sections_refusal node_refusal wire_refusal obstacle_refusal first_of section_of
+  held_2 p fits = answer-least clearance_nets.held_2 (p.judged refl) fits
 
   -- nor one whose sums wrap at 65536: under clearance 65535 no point is left
   pub held_all : Repaired 1 7 65535 file_held out after r → (r ≡ answer (refusal 15 0) 0) × (after ≡ out)
-  unfolding file_held file_of head_of pairs_right stretch stage_refusal read_refusal is_version head_refusal pairs_refusal net_refusal sections_refusal node_refusal wire_refusal obstacle_refusal first_of section_of stage_of
-  held_all p = answer-none clear_nets.held_all (p.judged refl)
+  unfolding file_held file_of head_of pairs_right stretch stage_refusal read_refusal is_version head_refusal pairs_refusal net_refusal sections_refusal node_refusal wire_refusal obstacle_refusal first_of section_of
+  held_all p = answer-none clearance_nets.held_all (p.judged refl)
 
   -- nor one that repair ignores, or that moves sides out in x alone: the obstacle beside the wire bars nothing under clearance 0, and both points under 1
   pub beside_0 : Repaired 1 7 0 file_beside out after r → 3 ≤ length out → r ≡ answer none 1
-  unfolding file_beside file_of head_of pairs_right stretch stage_refusal read_refusal is_version head_refusal pairs_refusal net_refusal sections_refusal node_refusal wire_refusal obstacle_refusal first_of section_of stage_of
-  beside_0 p fits = answer-least clear_nets.beside_0 (p.judged refl) fits
+  unfolding file_beside file_of head_of pairs_right stretch stage_refusal read_refusal is_version head_refusal pairs_refusal net_refusal sections_refusal node_refusal wire_refusal obstacle_refusal first_of section_of
+  beside_0 p fits = answer-least clearance_nets.beside_0 (p.judged refl) fits
 
   pub beside_1 : Repaired 1 7 1 file_beside out after r → 6 ≤ length out → r ≡ answer none 2
-  unfolding file_beside file_of head_of pairs_right stretch stage_refusal read_refusal is_version head_refusal pairs_refusal net_refusal sections_refusal node_refusal wire_refusal obstacle_refusal first_of section_of stage_of
-  beside_1 p fits = answer-least clear_nets.beside_1 (p.judged refl) fits
+  unfolding file_beside file_of head_of pairs_right stretch stage_refusal read_refusal is_version head_refusal pairs_refusal net_refusal sections_refusal node_refusal wire_refusal obstacle_refusal first_of section_of
+  beside_1 p fits = answer-least clearance_nets.beside_1 (p.judged refl) fits
+
+  -- nor one by which an obstacle of a lower layer bars
+  pub lower_all : Repaired 2 7 65535 (file_layered 1) out after r → 3 ≤ length out → r ≡ answer none 1
+  unfolding file_layered file_of head_of pairs_right stretch stage_refusal read_refusal is_version head_refusal pairs_refusal net_refusal sections_refusal node_refusal wire_refusal obstacle_refusal first_of section_of
+  lower_all p fits = answer-least clearance_nets.lower_all (p.judged refl) fits

@@ -32,7 +32,7 @@ pub fn antenna_write(
     net::write::write(version, nodes, wires, obstacles, out)
 }
 
-// Reports every piece of a net at a stage with jumpers in place, which 14 judges under a clearance: 1, 2 to 11 and 20, 12 to 14, 16, or the number of records.
+// Reports every piece of a net at a stage with jumpers in place, whose points 14 judges under a clearance: 1, 2 to 11 and 20, 12 to 14, 16, or the number of records.
 pub fn antenna_report(
     stage: u32,
     limit: u32,

@@ -31,7 +31,7 @@ pub extern "C" fn antenna_write(
     antenna::antenna_write(version, nodes, wires, obstacles, out).into()
 }
 
-// Reports every piece of a net at a stage with jumpers in place, which 14 judges under a clearance: 1, 2 to 11 and 20, 12 to 14, 16, or the number of records.
+// Reports every piece of a net at a stage with jumpers in place, whose points 14 judges under a clearance: 1, 2 to 11 and 20, 12 to 14, 16, or the number of records.
 #[unsafe(no_mangle)]
 pub extern "C" fn antenna_report(
     stage: u32,

@@ -43,7 +43,7 @@ position_refusal v c os line len t place = or_else (refused_if (not (leb 1 t && 
 
 -- a point: 13 on its wire, then its position on the wire's line
 module _ (v c : ℕ) (ns ws os : List ℕ) (k i t place : ℕ) where
-  pub no_wire : node_count ns ≤ i → refusal 13 place ≡ point_refusal (stage_under v c ns ws os k) i t place
+  pub no_wire : node_count ns ≤ i → refusal 13 place ≡ point_refusal (stage_under v ns ws os k c) i t place
   unfolding point_refusal stage_of
   no_wire h = rw (le-ltb _ _ h) (bools (ltb 0 i) (leb (wire_layer ws i) k) (leb 1 t && ltb t (wire_length ns ws i)))
     where
@@ -51,17 +51,17 @@ module _ (v c : ℕ) (ns ws os : List ℕ) (k i t place : ℕ) where
       bools true b d = refl
       bools false b d = refl
 
-  pub at_node : t ≡ 0 → refusal 13 place ≡ point_refusal (stage_under v c ns ws os k) i t place
+  pub at_node : t ≡ 0 → refusal 13 place ≡ point_refusal (stage_under v ns ws os k c) i t place
   unfolding point_refusal
   at_node z = grind (arith, nat_tests)
 
   module _ (a : i < node_count ns) where
-    pub absent_wire : (ltb 0 i && leb (wire_layer ws i) k) ≡ false → refusal 13 place ≡ point_refusal (stage_under v c ns ws os k) i t place
+    pub absent_wire : (ltb 0 i && leb (wire_layer ws i) k) ≡ false → refusal 13 place ≡ point_refusal (stage_under v ns ws os k c) i t place
     unfolding point_refusal stage_of
     absent_wire z = rw (lt-ltb _ _ a, z)
 
     pub position_point : (ltb 0 i && leb (wire_layer ws i) k) ≡ true
-        → position_refusal v c os (line_of ns ws i) (wire_length ns ws i) t place ≡ point_refusal (stage_under v c ns ws os k) i t place
+        → position_refusal v c os (line_of ns ws i) (wire_length ns ws i) t place ≡ point_refusal (stage_under v ns ws os k c) i t place
     unfolding position_refusal point_refusal stage_of
     position_point y = rw (lt-ltb _ _ a, y, barred_is v c ns ws os i t)
 

@@ -12,7 +12,7 @@ use Rattle.pieces.specs.JumperList.{point_refusal, entry_refusal, list_refusal}
 -- the refusal of a list at a stage under a clearance; the net has one wire of 13 steps, from (13,0) to (0,0), on a layer, and obstacles of a version
 abbrev pub refused_with : ℕ → ℕ → ℕ → List ℕ → ℕ → List ℕ → Verdict
 refused_with clearance layer version obstacles stage list =
-    list_refusal (stage_under version clearance (0 ∷ 0 ∷ 0 ∷ 0 ∷ 1 ∷ 13 ∷ 0 ∷ 0 ∷ 0 ∷ 1 ∷ []) (0 ∷ layer ∷ 1 ∷ []) obstacles stage) list
+    list_refusal (stage_under version (0 ∷ 0 ∷ 0 ∷ 0 ∷ 1 ∷ 13 ∷ 0 ∷ 0 ∷ 0 ∷ 1 ∷ []) (0 ∷ layer ∷ 1 ∷ []) obstacles stage clearance) list
 
 abbrev pub refused_on : ℕ → ℕ → List ℕ → ℕ → List ℕ → Verdict
 refused_on = refused_with 0
@@ -32,7 +32,7 @@ refused_under layer stage list = refused_on 2 2 (7 ∷ 0 ∷ 0 ∷ 0 ∷ 7 ∷ 0
 -- the refusal of a list on two wires, of 13 steps from (13,0) to (0,0) on layer 3, and of 5 from (13,5) to (13,0) on layer 2, under obstacles of version 2
 abbrev pub refused_on_two : List ℕ → List ℕ → Verdict
 refused_on_two obstacles list =
-    list_refusal (stage_under 2 0 (0 ∷ 0 ∷ 0 ∷ 0 ∷ 1 ∷ 13 ∷ 0 ∷ 0 ∷ 0 ∷ 0 ∷ 13 ∷ 0 ∷ 5 ∷ 0 ∷ 1 ∷ []) (0 ∷ 3 ∷ 1 ∷ 1 ∷ 2 ∷ 1 ∷ []) obstacles 3) list
+    list_refusal (stage_under 2 (0 ∷ 0 ∷ 0 ∷ 0 ∷ 1 ∷ 13 ∷ 0 ∷ 0 ∷ 0 ∷ 0 ∷ 13 ∷ 0 ∷ 5 ∷ 0 ∷ 1 ∷ []) (0 ∷ 3 ∷ 1 ∷ 1 ∷ 2 ∷ 1 ∷ []) obstacles 3 0) list
 
 pub record SmallLists : Type 0 where
   pub two_entries : refused 2 (1 ∷ 5 ∷ 0 ∷ 1 ∷ 12 ∷ 0 ∷ []) ≡ none

@@ -39,9 +39,9 @@ fn position_refusal(
 // Where the row ends whose first entry is e, which stands after the one before; or the first refusal up to there. 13 on the wire is met on its first entry; then
 // each entry in order: 12, then 13 and 14 on its point.
 fn row_end(net: Net, stage: u8, clearance: u16, list: &[u8], e: usize) -> Result<usize, Refusal>
-    requires { (e < entry_count list.now) × AcceptedTo (stage_of_net_under net clearance stage) list.now e }
-    ensures { MatchResult result (λ end. (e < end) × AcceptedTo (stage_of_net_under net.entry clearance stage) list.now end)
-        (λ r. refusal (number_of r) (place_of r) ≡ first_of (entry_count list.now) (entry_refusal (stage_of_net_under net.entry clearance stage) list.now)) }
+    requires { (e < entry_count list.now) × AcceptedTo (stage_of_net_under net stage clearance) list.now e }
+    ensures { MatchResult result (λ end. (e < end) × AcceptedTo (stage_of_net_under net.entry stage clearance) list.now end)
+        (λ r. refusal (number_of r) (place_of r) ≡ first_of (entry_count list.now) (entry_refusal (stage_of_net_under net.entry stage clearance) list.now)) }
 {
     let i = entry_wire(list, e);
     if node_count(net.nodes) <= i || !is_present(stage, net.wires, i) {
@@ -78,7 +78,7 @@ fn row_end(net: Net, stage: u8, clearance: u16, list: &[u8], e: usize) -> Result
 // does not align its loops.
 #[inline(never)]
 pub fn list_refusal(net: Net, stage: u8, clearance: u16, list: &[u8]) -> Result<(), Refusal>
-    ensures { checked result ≡ list_refusal (stage_of_net_under net.entry clearance stage) list.now }
+    ensures { checked result ≡ list_refusal (stage_of_net_under net.entry stage clearance) list.now }
 {
     if list.len() % ENTRY_BYTES != 0 {
         return Err(Refusal::ListOrder(0));

@@ -227,6 +227,6 @@ module _ (v : ℕ) (ns ws os : List ℕ) where
         below = λ i p. (r.wire i (present-positive k i p) (present-inside k i p)).below;
       }
 
-  pub formed_under : NetRight v ns ws os → (clearance k : ℕ) → Formed (stage_under v clearance ns ws os k)
+  pub formed_under : NetRight v ns ws os → (k clearance : ℕ) → Formed (stage_under v ns ws os k clearance)
   unfolding stage_of
-  formed_under r clearance k = let f = formed r k in record { inside = f.inside; below = f.below }
+  formed_under r k clearance = let f = formed r k in record { inside = f.inside; below = f.below }

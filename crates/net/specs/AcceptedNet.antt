@@ -18,4 +18,4 @@ abbrev pub stage_of_net : Net → ℕ → Stage
 stage_of_net net k = stage_of net.version net.nodes.now net.wires.now net.obstacles.now k
 
 abbrev pub stage_of_net_under : Net → ℕ → ℕ → Stage
-stage_of_net_under net clearance k = stage_under net.version clearance net.nodes.now net.wires.now net.obstacles.now k
+stage_of_net_under net k clearance = stage_under net.version net.nodes.now net.wires.now net.obstacles.now k clearance

@@ -7,7 +7,7 @@ use Rattle.net.specs.Refusal.{Verdict, or_else, stage_refusal, read_refusal, nod
 
 -- the net of a file at a stage under a clearance
 abbrev pub net_at : List ℕ → ℕ → ℕ → Stage
-net_at file stage clearance = stage_under (version_of file) clearance (nodes_of file) (wires_of file) (obstacles_of file) stage
+net_at file stage clearance = stage_under (version_of file) (nodes_of file) (wires_of file) (obstacles_of file) stage clearance
 
 -- 1, then 2 to 11 and 20
 abbrev pub call_refusal : ℕ → List ℕ → Verdict

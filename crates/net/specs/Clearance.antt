@@ -1,13 +1,11 @@
 -- What a clearance bars: at 0 just what an obstacle holds, as document 01 has it, border included; with a larger one all that a smaller one bars.
 -- Assumes nothing.
-use Rattle.std.specs.Prelude.{ℕ, ◌≤◌, ◌≡◌, refl, Bool, true, ◌&&◌, List, leb}
+use Rattle.std.specs.Prelude.{ℕ, ◌≤◌, ◌≡◌, Bool, true, ◌&&◌, List, leb}
 use Rattle.std.proofs.Common.{arith}
 use Rattle.std.proofs.lemmas.Bool.Decides.{nat_tests}
 use Rattle.laws.specs.Sum.{any}
 use Rattle.laws.specs.Sums.{any_ap, any_some, any-yes, and_left, and_right, and_intro}
 use Rattle.net.specs.Net.{point_x, point_y, obstacle_count, obstacle_x1, obstacle_y1, obstacle_x2, obstacle_y2, obstacle_layer, wire_layer, near, barred}
-use Rattle.net.specs.Stage.{stage_under}
-use Rattle.net.specs.NoClearance.{stage_of}
 
 -- obstacle k holds the point x, y, its border included (document 01)
 unfoldable pub holds : ℕ → List ℕ → ℕ → ℕ → ℕ → Bool
@@ -39,8 +37,3 @@ barred_more v {c} {d} ns ws os i t l h =
     let counts = leb (wire_layer ws i) (obstacle_layer v os o.0) in
     any-yes (obstacle_count v os) o.0 (λ k. near v d os k x y && leb (wire_layer ws i) (obstacle_layer v os k)) o.1
     (and_intro (near_more v os o.0 x y l (and_left (near v c os o.0 x y) counts o.2)) (and_right (near v c os o.0 x y) counts o.2))
-
--- without a clearance the net at a stage is that of document 01
-pub stage_without : (v : ℕ) (ns ws os : List ℕ) (k : ℕ) → stage_under v 0 ns ws os k ≡ stage_of v ns ws os k
-unfolding stage_of
-stage_without v ns ws os k = refl

@@ -122,7 +122,7 @@ small_files =
 -- position t of the wire is barred under a clearance by one obstacle of version 1; position 4 is the point (1, 5), 3 is (1, 6), 2 is (1, 7)
 abbrev pub barred_under : ℕ → ℕ → ℕ → ℕ → ℕ → ℕ → Bool
 barred_under clearance t x1 y1 x2 y2 =
-    (stage_under 1 clearance (nodes 3) wires (bytes16 x1 ++ bytes16 y1 ++ bytes16 x2 ++ bytes16 y2) 2).barred 1 t
+    (stage_under 1 (nodes 3) wires (bytes16 x1 ++ bytes16 y1 ++ bytes16 x2 ++ bytes16 y2) 2 clearance).barred 1 t
 
 -- the point (x, y) lies near one obstacle of one point
 abbrev pub near_point : ℕ → ℕ → ℕ → ℕ → ℕ → Bool
@@ -154,8 +154,8 @@ pub record SmallClearances : Type 0 where
   pub greatest : near_point 65535 0 65535 65535 0 ≡ true
   pub greatest_less : near_point 65534 0 65535 65535 0 ≡ false
   -- an obstacle of a layer below the wire's bars nothing, however large the clearance
-  pub lower_layer_far : (stage_under 2 65535 (nodes 3) wires (layered 1 1 1 1) 2).barred 1 4 ≡ false
-  pub same_layer_near : (stage_under 2 1 (nodes 3) wires (layered 1 1 1 2) 2).barred 1 3 ≡ true
+  pub lower_layer_far : (stage_under 2 (nodes 3) wires (layered 1 1 1 1) 2 65535).barred 1 4 ≡ false
+  pub same_layer_near : (stage_under 2 (nodes 3) wires (layered 1 1 1 2) 2 1).barred 1 3 ≡ true
 
 pub small_clearances : SmallClearances
 unfolding near barred point_x point_y any stage_of

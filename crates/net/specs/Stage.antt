@@ -16,8 +16,8 @@ pub record Stage : Type 0 where
   pub barred : ℕ → ℕ → Bool
 
 -- stage k of a net under a clearance: the wires of layer at most k are present
-abbrev pub stage_under : ℕ → ℕ → List ℕ → List ℕ → List ℕ → ℕ → Stage
-stage_under version clearance ns ws os k =
+abbrev pub stage_under : ℕ → List ℕ → List ℕ → List ℕ → ℕ → ℕ → Stage
+stage_under version ns ws os k clearance =
     record {
       nodes = node_count ns;
       parent = λ i. wire_parent ws i;

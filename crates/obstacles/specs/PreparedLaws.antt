@@ -90,7 +90,7 @@ module _ (v c : ℕ) (os : List ℕ) where
     prepared-near x y p q = rw (x1_is, y1_is, x2_is, y2_is) (grind (arith, nat_tests))
 
   module _ (ns ws : List ℕ) (right : NetRight v ns ws os) (nodes : Bytes ns) (bytes : Bytes os) where
-    prepared-barred : (i t : ℕ) → point_x ns ws i t < length_bound → point_y ns ws i t < length_bound →
+    pub prepared-barred : (i t : ℕ) → point_x ns ws i t < length_bound → point_y ns ws i t < length_bound →
         barred newest 0 ns ws (prepared v c os) i t ≡ barred v c ns ws os i t
     unfolding barred
     prepared-barred i t p q =

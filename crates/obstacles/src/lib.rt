@@ -17,7 +17,7 @@ pub const PREPARED_BYTES: usize = OBSTACLE_BYTES * MOST_OBSTACLES;
 pub fn is_prepared(version: u16, clearance: u16, obstacles: &[u8]) -> bool
     ensures { result ≡ ((eqb version newest && eqb clearance 0) || eqb (length obstacles.now) 0) }
 {
-    version == NEWEST_VERSION && clearance == 0 || obstacles.is_empty()
+    (version == NEWEST_VERSION && clearance == 0) || obstacles.is_empty()
 }
 
 // Writes the obstacles of a version at the start of out, grown by a clearance, in the form of the newest version; the bytes that they take there.

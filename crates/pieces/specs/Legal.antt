@@ -7,7 +7,7 @@ use Rattle.net.specs.Layout.{entry_bytes}
 use Rattle.net.specs.Stage.{Stage}
 use Rattle.pieces.specs.Piece.{Points, Group, Piece, is_harmful}
 
--- position t of wire i may be cut: it lies inside a wire made by the stage, and no obstacle covers it
+-- position t of wire i may be cut: it lies inside a wire made by the stage, and is not barred
 pub record Free (s : Stage) (i t : ℕ) : Type 0 where
   pub present : s.present i ≡ true
   pub low : 1 ≤ t

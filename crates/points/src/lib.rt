@@ -1,4 +1,4 @@
-// The points of a wire, and the obstacles that bar them. The search sees obstacles in the form of the newest version, which a clearance has grown already.
+// The points of a wire, and the obstacles that bar them. The search sees obstacles already grown by the clearance, in the form of the newest version.
 // Of a wire the public functions take the sections and its number, and require that it is checked: a `Net`, whose obstacles are right too, would ask more of
 // their callers. `is_barred` takes the wire's line, which serves all its points, and answers for every version, which the C interface gives as a number.
 // `k < obstacle_count ..` bounds a read in place, and `Reaches line t` is about a position, not about the line.
@@ -52,8 +52,8 @@ pub fn is_barred(version: u16, clearance: u16, obstacles: &[u8], line: Line, t: 
 // The point p lies at most a clearance outside obstacle k in x, and at most that far outside in y. One coordinate is read after another, since most obstacles are
 // passed at their first; `bars` has the whole obstacle, which the searches need where it bars. Tried as one, to the time before the design pass: by whole
 // obstacles a report of 8,000 jumpers under 256 obstacles took 1.52, and takes 1.01 so; by coordinates repair of a chain of 256 nodes without obstacles took 1.27,
-// and takes 0.98 so. The point is moved up by the clearance, and the upper sides by twice that: two numbers a point in place of four, which took 1.11 of the time
-// without a clearance where this takes 1.05 (20,000 jumpers on 256 nodes).
+// and takes 0.98 so. Of a point x + c and y + c are kept, and not x and y too: at clearance 0 a report of 20,000 jumpers on 256 nodes takes 1.05 of the time
+// before the clearance came, and took 1.11 with the sums of the definition.
 fn is_near(version: u16, clearance: u16, obstacles: &[u8], k: usize, p: Point) -> bool
     requires { k < obstacle_count version obstacles.now }
     ensures { result ≡ near version clearance obstacles.now k p.x p.y }

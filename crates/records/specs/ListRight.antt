@@ -1,5 +1,5 @@
 -- A net and a jumper list that are accepted. The passes over them read no obstacle: what they promise holds for whatever obstacles, of whatever version,
--- the net and the list are accepted with.
+-- the net and the list are accepted with; here without a clearance, which has no part in it either (`report_same`).
 -- Assumes nothing.
 use Rattle.std.specs.Prelude.{ℕ, ◌≡◌, List, []}
 use Rattle.net.specs.Stage.{Stage}

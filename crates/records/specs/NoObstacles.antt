@@ -36,11 +36,11 @@ module _ (v c : ℕ) (ns ws os : List ℕ) where
       }
 
   -- entry e: its order and its point are as they were, and nothing bars the point
-  entry_without : (k : ℕ) (list : List ℕ) (e : ℕ) → met (entry_refusal (stage_under v c ns ws os k) list e) ≡ false →
+  entry_without : (k : ℕ) (list : List ℕ) (e : ℕ) → met (entry_refusal (stage_under v ns ws os k c) list e) ≡ false →
       none ≡ entry_refusal (stage_of 1 ns ws [] k) list e
   unfolding entry_refusal point_refusal stage_of barred any
   entry_without k list e u =
-      let s = stage_under v c ns ws os k in
+      let s = stage_under v ns ws os k c in
       let i = entry_wire list e in
       let t = entry_position list e in
       let unordered = not (eqb e 0 || after list (e - 1) e) in
@@ -49,10 +49,10 @@ module _ (v c : ℕ) (ns ws os : List ℕ) where
       let u13 = unmet_l (refused_if outside 13 e) (refused_if (s.barred i t) 14 e) (unmet_r (refused_if unordered 12 e) point u) in
       rw (← none_if unordered 12 e refl (unmet_l (refused_if unordered 12 e) point u), ← none_if outside 13 e refl u13)
 
-  list_without : (k : ℕ) (list : List ℕ) → met (list_refusal (stage_under v c ns ws os k) list) ≡ false → none ≡ list_refusal (stage_of 1 ns ws [] k) list
+  list_without : (k : ℕ) (list : List ℕ) → met (list_refusal (stage_under v ns ws os k c) list) ≡ false → none ≡ list_refusal (stage_of 1 ns ws [] k) list
   unfolding list_refusal
   list_without k list u =
-      let s = stage_under v c ns ws os k in
+      let s = stage_under v ns ws os k c in
       let uneven = not (eqb (length list % entry_bytes) 0) in
       let each = first_of (entry_count list) (λ e. entry_refusal s list e) in
       let entries = first-unmet (λ e. entry_refusal s list e) (entry_count list) (unmet_r (refused_if uneven 12 0) each u) in
@@ -61,7 +61,7 @@ module _ (v c : ℕ) (ns ws os : List ℕ) where
         ← first-none (λ e. entry_refusal (stage_of 1 ns ws [] k) list e) (entry_count list) (λ e h. entry_without k list e (entries e h)),
       )
 
-  pub accepted_without : (k : ℕ) (list : List ℕ) → NetRight v ns ws os → list_refusal (stage_under v c ns ws os k) list ≡ none → AcceptedWithoutObstacles ns ws k list
+  pub accepted_without : (k : ℕ) (list : List ℕ) → NetRight v ns ws os → list_refusal (stage_under v ns ws os k c) list ≡ none → AcceptedWithoutObstacles ns ws k list
   accepted_without k list right listed = (sym (net-none 1 ns ws [] (right_without right)), sym (list_without k list (ap met listed)))
 
 pub right_bare : {ns ws list : List ℕ} {k : ℕ} → AcceptedWithoutObstacles ns ws k list → ListRight 1 ns ws k list []

@@ -231,14 +231,14 @@ module _ (v c : ℕ) (ns ws os : List ℕ) (nodes : Bytes ns) (bytes : Bytes os)
   agrees : (k : ℕ) → SameBarred (stage_of newest ns ws (prepared v c os) k) (λ i t. barred v c ns ws os i t)
   agrees = prepared_agrees v c os ns ws (net-right v ns ws os accepted) nodes bytes
 
-  pub judged-prepared : (k : ℕ) {limit : ℕ} {out after : List ℕ} {r : Answer} → Judged (stage_of newest ns ws (prepared v c os) k) limit out after r → Judged (stage_under v c ns ws os k) limit out after r
+  pub judged-prepared : (k : ℕ) {limit : ℕ} {out after : List ℕ} {r : Answer} → Judged (stage_of newest ns ws (prepared v c os) k) limit out after r → Judged (stage_under v ns ws os k c) limit out after r
   unfolding stage_of
   judged-prepared k (no_legal_set n e a) = no_legal_set (none_legal_same (agrees k) n) e a
   judged-prepared k (too_short list n m lt e a) = too_short list n (smallest-same (agrees k) m) lt e a
   judged-prepared k (done list n m le e a) = done list n (smallest-same (agrees k) m) le e a
 
   module _ (as_is : ((v ≡ newest) × (c ≡ 0)) ⊎ (prepared v c os ≡ os)) where
-    pub judged_as_is : (k : ℕ) {limit : ℕ} {out after : List ℕ} {r : Answer} → Judged (stage_of newest ns ws os k) limit out after r → Judged (stage_under v c ns ws os k) limit out after r
+    pub judged_as_is : (k : ℕ) {limit : ℕ} {out after : List ℕ} {r : Answer} → Judged (stage_of newest ns ws os k) limit out after r → Judged (stage_under v ns ws os k c) limit out after r
     unfolding stage_of
     judged_as_is k j = elim as_is [
       | inl e ↦ rw (e.0, e.1) j

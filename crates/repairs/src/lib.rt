@@ -38,8 +38,8 @@ pub fn repair(
     repair_under(net, stage as u8, u64::from(limit), clearance, out)
 }
 
-// Repair on a net of any version under a clearance: the passes see its obstacles grown, in the form of the newest version. For a net that has that form no room
-// is cleared.
+// Repair on a net of any version under a clearance: the passes see its obstacles grown, in the form of the newest version. No room is cleared for a net
+// without obstacles, nor for one of that version without a clearance.
 fn repair_under(
     net: Net,
     stage: u8,
@@ -48,7 +48,7 @@ fn repair_under(
     out: &mut [u8],
 ) -> Result<usize, Refusal>
     requires { Bytes net.nodes.now × Bytes net.obstacles.now }
-    ensures { Judged (stage_of_net_under net.entry clearance stage) limit out.old out.new (answered result) }
+    ensures { Judged (stage_of_net_under net.entry stage clearance) limit out.old out.new (answered result) }
 {
     if is_prepared(net.version, clearance, net.obstacles) {
         return repair_prepared(net, net.obstacles, stage, limit, out);

@@ -27,7 +27,7 @@ numbered e h = rw e at h
 module _ (stage c : ℕ) (file list : List ℕ) where
   -- the list's refusal on sections equal to those of the file
   pub list_at : {ns ws os : List ℕ} {v : ℕ} {r : Verdict} → ns ≡ nodes_of file → ws ≡ wires_of file → v ≡ version_of file → os ≡ obstacles_of file →
-      r ≡ list_refusal (stage_under v c ns ws os stage) list → r ≡ list_refusal (net_at file stage c) list
+      r ≡ list_refusal (stage_under v ns ws os stage c) list → r ≡ list_refusal (net_at file stage c) list
   list_at a b v o e = rw (a, b, v, o) at e
 
   -- a list whose refusal has number 0 is accepted
@@ -40,24 +40,24 @@ module _ (stage c : ℕ) (file list : List ℕ) where
     accepted_here z listed = rw (a, b) (accepted_without (version_of file) c _ _ (obstacles_of file) stage list (call_right stage file (call_unmet stage file z)) listed)
 
     -- what the file's obstacles bar under the clearance
-    abbrev bar : ℕ → ℕ → Bool
-    bar i t = barred (version_of file) c (nodes_of file) (wires_of file) (obstacles_of file) i t
+    abbrev barred_of : ℕ → ℕ → Bool
+    barred_of i t = barred (version_of file) c (nodes_of file) (wires_of file) (obstacles_of file) i t
 
     abbrev bare : Stage
     bare = stage_of 1 ns ws [] stage
 
-    same_net : barred_by bare bar ≡ net_at file stage c
+    same_net : barred_by bare barred_of ≡ net_at file stage c
     unfolding stage_of
     same_net = rw (a, b)
 
     -- what holds of the net whatever obstacles it is accepted with, holds of it without any
     module _ (accepted : AcceptedWithoutObstacles ns ws stage list) where
       pub counted : {n : ℕ} → AtAccepted ns ws stage list (λ s. n ≡ piece_count s list) → n ≡ piece_count (net_at file stage c) list
-      counted h = h 1 [] (right_bare accepted) ∙ ap length (names_same bare bar (set_of list)) ∙ ap (λ (s : Stage). piece_count s list) same_net
+      counted h = h 1 [] (right_bare accepted) ∙ ap length (names_same bare barred_of (set_of list)) ∙ ap (λ (s : Stage). piece_count s list) same_net
 
       pub written_here : (limit : ℕ) (out : List ℕ) {after : List ℕ} → AtAccepted ns ws stage list (λ s. after ≡ over (report_of s limit (set_of list)) out)
           → after ≡ pieces_buffer (net_at file stage c) limit list out
       written_here limit out h =
           h 1 [] (right_bare accepted)
-          ∙ ap (λ (l : List ℕ). over l out) (report_same bare bar (set_of list) limit ∙ ap (λ (s : Stage). report_of s limit (set_of list)) same_net)
+          ∙ ap (λ (l : List ℕ). over l out) (report_same bare barred_of (set_of list) limit ∙ ap (λ (s : Stage). report_of s limit (set_of list)) same_net)
           ∙ pieces_over (net_at file stage c) limit list out

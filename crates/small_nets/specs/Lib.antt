@@ -2,4 +2,4 @@ pub mod Cases
 pub mod Decide
 pub mod Shown
 pub mod Layered
-pub mod Clear
+pub mod Clearances

@@ -8,7 +8,7 @@ use Rattle.lists.proofs.check.list_refusal.Given as goal
 
 abbrev pub invariant-loop-e : goal.invariant-loop-e
 invariant-loop-e l =
-    AcceptedTo (stage_of_net_under l.net l.clearance l.stage) l.list l.e
+    AcceptedTo (stage_of_net_under l.net l.stage l.clearance) l.list l.e
 
 abbrev pub decreases-loop-e : goal.decreases-loop-e
 decreases-loop-e l = entry_count l.list - l.e

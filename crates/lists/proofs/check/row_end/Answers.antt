@@ -27,7 +27,7 @@ of_wire-line-requires c = length_of-length-requires (goal.at.of_wire-line-requir
 pub returns-then-node_count-i : goal.returns-then-node_count-i
 returns-then-node_count-i c =
     let a = c.args in
-    let s = stage_of_net_under a.net a.clearance a.stage in
+    let s = stage_of_net_under a.net a.stage a.clearance in
     let on_wire : refusal 13 a.e ≡ point_refusal s c.entry_wire-i.result (entry_position a.list.now a.e) a.e =
     elim c.then-node_count-i.branch [
       | then-node_count-i-via-then-node_count-i w ↦ no_wire _ _ _ _ _ _ _ _ _ (omega arith)
@@ -56,7 +56,7 @@ returns-then-before-eq0 c =
     let d = c.loop-d.d in
     let here : d ≡ a.e = grind (arith, v.behind) in
     let stands : true ≡ (eqb d 0 || after a.list.now (d - 1) d) = rw here (c.requires.1.stands c.requires.0) in
-    let s = stage_of_net_under a.net a.clearance a.stage in
+    let s = stage_of_net_under a.net a.stage a.clearance in
     let outside : refusal 13 d ≡ point_refusal s (entry_wire a.list.now d) (entry_position a.list.now d) d = at_node _ _ _ _ _ _ _ _ _ (omega arith) in
     first-here _ _ _ (omega arith) v.accepted (outside ∙ entry_point s a.list.now d stands) refl
 
@@ -68,7 +68,7 @@ returns-else-before-eq0 c =
     first-here _ _ _ (omega arith) v.accepted (entry_not_after _ _ _ (after_not_behind _ _ (omega arith) (omega arith) (omega arith))) refl
 
 -- an entry of the row behind position `before` stands after the one before it, and what is judged is its point
-judged : (c : After-position_refusal) → checked c.position_refusal.result ≡ entry_refusal (stage_of_net_under c.args.net c.args.clearance c.args.stage) c.args.list.now c.loop-d.d
+judged : (c : After-position_refusal) → checked c.position_refusal.result ≡ entry_refusal (stage_of_net_under c.args.net c.args.stage c.args.clearance) c.args.list.now c.loop-d.d
 judged c =
     let a = c.args in
     let v = c.loop-d.invariant in

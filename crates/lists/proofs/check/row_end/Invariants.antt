@@ -10,7 +10,7 @@ use Rattle.lists.proofs.check.row_end.Given as goal
 abbrev pub invariant-loop-d : goal.invariant-loop-d
 invariant-loop-d l =
     record {
-      accepted : none ≡ first_of l.d (entry_refusal (stage_of_net_under l.net l.clearance l.stage) l.list);
+      accepted : none ≡ first_of l.d (entry_refusal (stage_of_net_under l.net l.stage l.clearance) l.list);
       first : l.d ≡ l.e → l.before ≡ 0;
       behind : l.e < l.d → (entry_wire l.list (l.d - 1) ≡ l.i) × (l.before ≡ entry_position l.list (l.d - 1)) × (0 < l.before);
     }
