@@ -219,7 +219,13 @@ fn shown_in_the_documents() {
     let folder = PathBuf::from(env!("CARGO_TARGET_TMPDIR")).join("shown");
     let _ = std::fs::remove_dir_all(&folder);
     std::fs::create_dir(&folder).unwrap();
-    std::os::unix::fs::symlink(root().join("examples"), folder.join("examples")).unwrap();
+    // not a link: rt ci, which runs before the tests, takes none in a checkout
+    let examples = root().join("examples");
+    let copied = Command::new("cp")
+        .arg("-r")
+        .args([&examples, &folder])
+        .status();
+    assert!(copied.unwrap().success());
     let built = root().join("command/target/release");
     let path = format!("{}:{}", built.display(), std::env::var("PATH").unwrap());
     let commands = ["README.md", "docs/METHOD.md"].map(shown).concat();
