@@ -10,7 +10,6 @@ use Rattle.laws.specs.Sums.{by}
 use Rattle.net.specs.declared.Answer.{Answer}
 use Rattle.net.specs.Layout.{entry_bytes, most_nodes}
 use Rattle.net.specs.Stage.{Stage}
-use Rattle.net.specs.NoClearance.{stage_of}
 use Rattle.net.specs.Formed.{Formed}
 use Rattle.net.specs.Refusal.{Verdict, answer, none, refusal, met}
 use Rattle.net.specs.Call.{net_at, call_refusal}
@@ -147,7 +146,6 @@ enough_is = refl
 pub enough :
     {stage limit clearance : ℕ} {file out after : List ℕ} {r : Answer} →
     Repaired stage limit clearance file out after r → met (call_refusal stage file) ≡ false → enough_bytes ≤ length out → r.number ≡ 16 → ⊥
-unfolding stage_of
 enough {stage} {limit} {clearance} {file} {out} {after} {r} p u room e =
     let w = (sixteen (p.judged u)).0 e in
     let right = call_right stage file u in

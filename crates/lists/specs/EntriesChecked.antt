@@ -11,7 +11,6 @@ use Rattle.laws.specs.Sums.{by, and_left}
 use Rattle.net.specs.Layout.{wire_bytes, entry_bytes}
 use Rattle.net.specs.Net.{node_count, wire_layer, wire_length, barred}
 use Rattle.net.specs.Stage.{Stage, stage_under}
-use Rattle.net.specs.NoClearance.{stage_of}
 use Rattle.net.specs.Refusal.{Verdict, none, refusal, met, refused_if, or_else, first_of, net_refusal}
 use Rattle.net.specs.First.{none_if, none_or, first-none, first-unmet, unmet-number}
 use Rattle.net.specs.Accepted.{net-right}
@@ -44,7 +43,7 @@ position_refusal v c os line len t place = or_else (refused_if (not (leb 1 t && 
 -- a point: 13 on its wire, then its position on the wire's line
 module _ (v c : ℕ) (ns ws os : List ℕ) (k i t place : ℕ) where
   pub no_wire : node_count ns ≤ i → refusal 13 place ≡ point_refusal (stage_under v ns ws os k c) i t place
-  unfolding point_refusal stage_of
+  unfolding point_refusal
   no_wire h = rw (le-ltb _ _ h) (bools (ltb 0 i) (leb (wire_layer ws i) k) (leb 1 t && ltb t (wire_length ns ws i)))
     where
       bools : (a b d : Bool) → refusal 13 place ≡ or_else (refused_if (not ((a && (false && b)) && d)) 13 place) (refused_if (barred v c ns ws os i t) 14 place)
@@ -57,12 +56,12 @@ module _ (v c : ℕ) (ns ws os : List ℕ) (k i t place : ℕ) where
 
   module _ (a : i < node_count ns) where
     pub absent_wire : (ltb 0 i && leb (wire_layer ws i) k) ≡ false → refusal 13 place ≡ point_refusal (stage_under v ns ws os k c) i t place
-    unfolding point_refusal stage_of
+    unfolding point_refusal
     absent_wire z = rw (lt-ltb _ _ a, z)
 
     pub position_point : (ltb 0 i && leb (wire_layer ws i) k) ≡ true
         → position_refusal v c os (line_of ns ws i) (wire_length ns ws i) t place ≡ point_refusal (stage_under v ns ws os k c) i t place
-    unfolding position_refusal point_refusal stage_of
+    unfolding position_refusal point_refusal
     position_point y = rw (lt-ltb _ _ a, y, barred_is v c ns ws os i t)
 
 -- an entry stands after the one before, or not: the wires, then the positions on one wire

@@ -4,7 +4,6 @@ use Rattle.std.specs.Prelude.{ℕ, ◌≡◌, refl, List, [], ◌∷◌}
 use Rattle.laws.specs.Sum.{any}
 use Rattle.net.specs.Net.{wire_length, point_x, point_y, near, barred}
 use Rattle.net.specs.Stage.{stage_under}
-use Rattle.net.specs.NoClearance.{stage_of}
 use Rattle.net.specs.Refusal.{Verdict, none, refusal, first_of}
 use Rattle.pieces.specs.Legal.{after}
 use Rattle.pieces.specs.JumperList.{point_refusal, entry_refusal, list_refusal}
@@ -75,7 +74,7 @@ pub record SmallLists : Type 0 where
   pub order_first : refused_near 1 (1 ∷ 4 ∷ 0 ∷ 1 ∷ 4 ∷ 0 ∷ []) ≡ refusal 12 1
 
 pub small_lists : SmallLists
-unfolding list_refusal entry_refusal point_refusal after first_of stage_of wire_length barred near point_x point_y any
+unfolding list_refusal entry_refusal point_refusal after first_of wire_length barred near point_x point_y any
 small_lists =
     record {
       two_entries = refl;

@@ -158,7 +158,7 @@ pub record SmallClearances : Type 0 where
   pub same_layer_near : (stage_under 2 (nodes 3) wires (layered 1 1 1 2) 2 1).barred 1 3 ≡ true
 
 pub small_clearances : SmallClearances
-unfolding near barred point_x point_y any stage_of
+unfolding near barred point_x point_y any
 small_clearances =
     record {
       at_border = refl;

@@ -7,7 +7,6 @@ use Rattle.laws.specs.Sum.{sum, any, lowest, highest}
 use Rattle.laws.specs.Gather.{gather}
 use Rattle.net.specs.Layout.{record_bytes}
 use Rattle.net.specs.Net.{wire_length, point_x, point_y, near, barred}
-use Rattle.net.specs.NoClearance.{stage_of}
 use Rattle.net.specs.File.{file_of, head_of, pairs_right, stretch}
 use Rattle.net.specs.Refusal.{Verdict, none, refusal, met, answer, stage_refusal, read_refusal, is_version, head_refusal, pairs_refusal, net_refusal, sections_refusal, node_refusal, wire_refusal, obstacle_refusal, first_of, section_of}
 use Rattle.net.specs.Call.{net_at, call_refusal}
@@ -122,7 +121,7 @@ pub record SmallReports : Type 0 where
   pub stage_first : (file list out : List ℕ) → Refuses 17 3 0 file list (refusal 1 0) out
 
 pub small-reports : SmallReports
-unfolding file_of head_of pairs_right stretch stage_refusal read_refusal is_version head_refusal pairs_refusal net_refusal sections_refusal node_refusal wire_refusal obstacle_refusal first_of section_of stage_of wire_length barred near point_x point_y sum any lowest highest gather flat_map weight_of listed cut_at first_jumper last_jumper joins follow lowest_node step_name named after point_refusal entry_refusal list_refusal node_names stretch_names piece_names has_gate has_source is_harmful flags_of has_layer layers_of layer_count lowest_layer record_of report_of
+unfolding file_of head_of pairs_right stretch stage_refusal read_refusal is_version head_refusal pairs_refusal net_refusal sections_refusal node_refusal wire_refusal obstacle_refusal first_of section_of wire_length barred near point_x point_y sum any lowest highest gather flat_map weight_of listed cut_at first_jumper last_jumper joins follow lowest_node step_name named after point_refusal entry_refusal list_refusal node_names stretch_names piece_names has_gate has_source is_harmful flags_of has_layer layers_of layer_count lowest_layer record_of report_of
 small-reports =
     record {
       one_piece = reports 1 12 0 (file_a 1 1) [] 1 (bytes 0 0 13 5 1 1 1) refl refl refl refl;

@@ -4,7 +4,6 @@ use Rattle.std.specs.Prelude.{ℕ, ◌≡◌, refl, List, [], ◌∷◌}
 use Rattle.laws.specs.Sum.{sum, any, lowest, highest}
 use Rattle.net.specs.Net.{wire_length, point_x, point_y, near, barred}
 use Rattle.net.specs.Stage.{Stage, stage_under}
-use Rattle.net.specs.NoClearance.{stage_of}
 use Rattle.net.specs.Formed.{Formed}
 use Rattle.net.specs.Refusal.{none, net_refusal, sections_refusal, node_refusal, wire_refusal, obstacle_refusal, first_of}
 use Rattle.net.specs.Accepted.{net-right, formed_under}
@@ -50,7 +49,7 @@ formed-clearance : (clearance : ℕ) (os : List ℕ) → net_refusal 1 (nodes_a 
 formed-clearance clearance os h = formed_under 1 (nodes_a 1) (wires_a 1) os (net-right 1 (nodes_a 1) (wires_a 1) os h) 1 clearance
 
 pub clearance_nets : ClearanceNets
-unfolding net_refusal sections_refusal node_refusal wire_refusal obstacle_refusal first_of somewhere free_at barred point_x point_y near harms harmful_at any stage_of lowest_node follow joins cut_at node_weight wire_adds first_jumper last_jumper lowest highest wire_length sum size
+unfolding net_refusal sections_refusal node_refusal wire_refusal obstacle_refusal first_of somewhere free_at barred point_x point_y near harms harmful_at any lowest_node follow joins cut_at node_weight wire_adds first_jumper last_jumper lowest highest wire_length sum size
 clearance_nets =
     record {
       held_0 = least_1 (clearance_a 0 (bar 5 5)) (formed-clearance 0 (bar 5 5) refl) 7 1 6 refl refl refl refl;

@@ -402,7 +402,7 @@ pub fn report_changes_by_14_alone(report: Report, cases: usize) {
     }
     println!("report answers by number: {met:?}");
     let mut numbers: Vec<usize> = (0..=14).chain([16]).collect();
-    met.often(0, &[1, 2], 20_000, cases);
+    met.often(0, &[1, 2], 10_000, cases);
     met.often(1, &numbers, 2000, cases);
     numbers.push(20);
     met.often(2, &numbers, 2000, cases);

@@ -133,7 +133,7 @@ pub fn random_calls(report: Report, cases: usize) {
     println!("report answers by number: {met:?}");
     println!("not 14 by a layer: {by_layer}, 14 by the clearance: {by_clearance}");
     let mut numbers: Vec<usize> = (0..=14).chain([16]).collect();
-    met.often(0, &[1, 2], 20_000, cases);
+    met.often(0, &[1, 2], 10_000, cases);
     met.often(1, &numbers, 2000, cases);
     numbers.push(20);
     met.often(2, &numbers, 2000, cases);
