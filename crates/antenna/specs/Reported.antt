@@ -20,13 +20,10 @@ use Rattle.net.specs.Stage.{Stage}
 use Rattle.net.specs.NoClearance.{stage_of}
 use Rattle.net.specs.Formed.{Formed}
 use Rattle.net.specs.File.{version_of}
-use Rattle.net.specs.Refusal.{stage_refusal, read_refusal, section_of, nodes_of, wires_of, obstacles_of}
+use Rattle.net.specs.Refusal.{nodes_of, wires_of, obstacles_of}
 use Rattle.net.specs.Call.{net_at}
 use Rattle.net.specs.Accepted.{present-positive, present-inside}
-use Rattle.net.specs.AcceptedIf.{head-unmet, file_right_of}
-use Rattle.net.specs.First.{unmet_r}
 use Rattle.net.specs.Parts.{bytes_section}
-use Rattle.net.specs.Reading.{section_stretch}
 use Rattle.points.specs.Geometry.{checked_of, length-small}
 use Rattle.pieces.specs.Piece.{Points, Element, node, step, Group, Piece, weight_of, has_gate, has_source, is_harmful}
 use Rattle.pieces.specs.Real.{Real, a_step}
@@ -40,7 +37,7 @@ use Rattle.pieces.specs.Reports.{record_length}
 use Rattle.pieces.specs.Named.{named-yes, named-number, named-position}
 use Rattle.reports.specs.Promise.{piece_count, pieces_buffer, report_answer, report_buffer}
 use Rattle.records.specs.WeightFits.{weight-fits, weight_field}
-use Rattle.antenna.specs.AcceptedCalls.{report_unmet, report_call, report_right, report_formed, report_inside, report_count}
+use Rattle.antenna.specs.AcceptedCalls.{report_unmet, report_right, report_formed, report_inside, report_count}
 
 -- record e of a report: its name, its weight, and bit 2 of its flags
 abbrev pub record_name : List ℕ → ℕ → Name
@@ -183,11 +180,6 @@ module _ (s : Stage) (limit : ℕ) (J : Points) (formed : Formed s) (inside : In
 -- report answers done
 module _ (stage limit clearance : ℕ) (file list out after : List ℕ) (r : Answer) (bytes : Bytes file) (e : r ≡ report_answer stage clearance file list (length out))
     (b : after ≡ report_buffer stage limit clearance file list out) (zero : r.number ≡ 0) where
-  bytes_of : (k : ℕ) → Bytes (section_of file k)
-  bytes_of k =
-      let f = file_right_of file (unmet_r (stage_refusal stage) (read_refusal file) (report_call stage clearance file list (length out) r e zero)) in
-      rw (← section_stretch file k (head-unmet file f.head)) (bytes_section file f.head bytes k)
-
   pub reported : Reported (net_at file stage clearance) limit (set_of list) after r.count
   unfolding report_buffer pieces_buffer stage_of weight_of
   reported =
@@ -197,5 +189,5 @@ module _ (stage limit clearance : ℕ) (file list out after : List ℕ) (r : Ans
       subst (λ (l : List ℕ). Reported (net_at file stage clearance) limit (set_of list) l r.count) (sym (b ∙ rw u))
       (subst (λ (n : ℕ). Reported (net_at file stage clearance) limit (set_of list) (report_of (net_at file stage clearance) limit (set_of list) ++ rest) n) (sym (report_count stage clearance file list (length out) r e zero))
       (records (net_at file stage clearance) limit (set_of list) (report_formed stage clearance file list (length out) r e zero) (report_inside stage clearance file list (length out) r e zero)
-      (λ i p. length-small (nodes_of file) (wires_of file) i (bytes_of 0) (checked_of right i (present-positive (version_of file) (nodes_of file) (wires_of file) (obstacles_of file) stage i p) (present-inside (version_of file) (nodes_of file) (wires_of file) (obstacles_of file) stage i p)))
-      (λ P. weight-fits (version_of file) (nodes_of file) (wires_of file) (obstacles_of file) right (bytes_of 0) (bytes_of 1) stage P) rest))
+      (λ i p. length-small (nodes_of file) (wires_of file) i (bytes_section file bytes 0) (checked_of right i (present-positive (version_of file) (nodes_of file) (wires_of file) (obstacles_of file) stage i p) (present-inside (version_of file) (nodes_of file) (wires_of file) (obstacles_of file) stage i p)))
+      (λ P. weight-fits (version_of file) (nodes_of file) (wires_of file) (obstacles_of file) right (bytes_section file bytes 0) (bytes_section file bytes 1) stage P) rest))

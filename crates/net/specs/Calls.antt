@@ -2,14 +2,13 @@
 -- Assumes nothing.
 use Rattle.std.specs.Prelude.{ℕ, ◌<◌, ◌≤◌, ◌≡◌, false, ◌||◌, List, eqb}
 use Rattle.std.proofs.Math.Path.{refl}
-use Rattle.std.proofs.Common.{sym, arith, lit<}
+use Rattle.std.proofs.Common.{sym, arith}
 use Rattle.std.proofs.Math.Dec.{ltb}
 use borrow.Author.Tests.{lt-ltb, le-ltb, ltb-false, ne_eqb}
-use Rattle.laws.specs.Numbers.{Bytes, bytes_take, bytes_drop}
-use Rattle.laws.specs.Sums.{by, or_no_right}
+use Rattle.laws.specs.Sums.{or_no_right}
 use Rattle.net.specs.Layout.{most_layers}
-use Rattle.net.specs.File.{version_of, offset, extent, stretch}
-use Rattle.net.specs.Refusal.{none, refusal, met, or_else, stage_refusal, head_refusal, pairs_refusal, read_refusal, net_refusal, section_of, nodes_of, wires_of, obstacles_of}
+use Rattle.net.specs.File.{version_of}
+use Rattle.net.specs.Refusal.{none, refusal, met, stage_refusal, read_refusal, net_refusal, nodes_of, wires_of, obstacles_of}
 use Rattle.net.specs.Call.{call_refusal}
 use Rattle.net.specs.Accepted.{HeadRight, NetRight}
 use Rattle.net.specs.AcceptedIf.{net-none, file_right_of}
@@ -27,14 +26,6 @@ stage_high stage h = rw (ne_eqb stage 0 (λ e. omega arith), lt-ltb most_layers 
 pub stage_right : (stage : ℕ) → (stage ≡ 0 → ⊥) → stage ≤ most_layers → none ≡ stage_refusal stage
 unfolding stage_refusal
 stage_right stage n h = rw (ne_eqb stage 0 n, le-ltb most_layers stage h)
-
--- a section of a file of bytes
-pub section-bytes : (file : List ℕ) → Bytes file → (k : ℕ) → Bytes (section_of file k)
-unfolding section_of stretch
-section-bytes file b k =
-    by (met (or_else (head_refusal file) (pairs_refusal file)))
-    (λ y i. rw y (lit< tt))
-    (λ z. rw z (bytes_take (extent file k) _ (bytes_drop (offset file k) file b)))
 
 -- a call that meets none of 1 to 11 and 20 has a right net
 pub call_right : (stage : ℕ) (file : List ℕ) → met (call_refusal stage file) ≡ false → NetRight (version_of file) (nodes_of file) (wires_of file) (obstacles_of file)

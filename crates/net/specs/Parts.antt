@@ -1,16 +1,17 @@
 -- The parts of a file: of one made of three sections, and of one that is right.
 -- Assumes nothing.
 use Rattle.std.specs.Prelude.{ℕ, ◌+◌, ◌<◌, ◌≤◌, ◌≡◌, true, drop}
-use Rattle.std.proofs.Common.{◌∙◌, arith, length-drop, take-append-drop, take_at, take_all}
+use Rattle.std.proofs.Common.{◌∙◌, lit<, arith, length-drop, take-append-drop, take_at, take_all}
 use Rattle.std.proofs.Math.Path.{refl}
 use mathlib.Core.List.{List, ◌++◌, append_assoc}
 use Rattle.std.proofs.Math.ListN.{length, take}
 use Rattle.std.proofs.Math.Seq.{length-take-le, take-add, drop_at, drop-drop}
 use Rattle.laws.specs.Bytes.{le32, bytes16, bytes32}
 use Rattle.laws.specs.Numbers.{Bytes, bytes16-here, bytes32-here, le16-bytes16, le32-bytes32, bytes_take, bytes_drop}
+use Rattle.laws.specs.Sums.{by}
 use Rattle.net.specs.Layout.{head_bytes}
 use Rattle.net.specs.File.{version_of, pair_count, offset, extent, stretch, head_of, file_of}
-use Rattle.net.specs.Refusal.{is_version}
+use Rattle.net.specs.Refusal.{is_version, met, or_else, head_refusal, pairs_refusal, section_of}
 use Rattle.net.specs.Versions.{version_low}
 use Rattle.net.specs.Writing.{head-length, wires-after, obstacles-after, file-length}
 use Rattle.net.specs.Accepted.{HeadRight}
@@ -97,15 +98,19 @@ module _ (v : ℕ) (ns ws os : List ℕ) (right : is_version v ≡ true) (small 
       )
       (take_all (length os) os (omega arith))
 
+-- a section of a file of bytes is bytes
+pub bytes_section : (f : List ℕ) → Bytes f → (k : ℕ) → Bytes (section_of f k)
+unfolding section_of stretch
+bytes_section f b k =
+    by (met (or_else (head_refusal f) (pairs_refusal f)))
+    (λ y i. rw y (lit< tt))
+    (λ z. rw z (bytes_take (extent f k) (drop (offset f k) f) (bytes_drop (offset f k) f b)))
+
 -- a file that is right is that of its sections
 module _ (f : List ℕ) (h : HeadRight f) where
   pub length_section : (k : ℕ) → offset f k + extent f k ≤ length f → length (stretch f k) ≡ extent f k
   unfolding stretch
   length_section k i = length-take-le (extent f k) (drop (offset f k) f) (rw (length-drop (offset f k) f) (omega arith))
-
-  pub bytes_section : Bytes f → (k : ℕ) → Bytes (stretch f k)
-  unfolding stretch
-  bytes_section b k = bytes_take (extent f k) (drop (offset f k) f) (bytes_drop (offset f k) f b)
 
   module _ (b : Bytes f) where
     then32 : (n m : ℕ) (p : List ℕ) → take n f ≡ p → n + 4 ≤ length f → le32 f n ≡ m → take (n + 4) f ≡ p ++ bytes32 m

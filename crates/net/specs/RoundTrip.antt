@@ -9,12 +9,12 @@ use Rattle.laws.specs.Numbers.{Bytes, le16-low, le16-high, same-records}
 use Rattle.net.specs.Layout.{head_bytes, node_bytes, wire_bytes, obstacle_bytes, most_obstacles, most_layers}
 use Rattle.net.specs.Net.{node_count, node_x, node_y, node_flags, wire_parent, wire_layer, wire_factor, obstacle_count, obstacle_x1, obstacle_y1, obstacle_x2, obstacle_y2, obstacle_layer}
 use Rattle.net.specs.File.{version_of, file_of, file_bytes}
-use Rattle.net.specs.Refusal.{none, refused_if, is_version, net_refusal, section_of, nodes_of, wires_of, obstacles_of, answer, write_refusal, write_answer, write_buffer}
+use Rattle.net.specs.Refusal.{none, refused_if, is_version, net_refusal, nodes_of, wires_of, obstacles_of, answer, write_refusal, write_answer, write_buffer}
 use Rattle.net.specs.First.{unmet_if, unmet_l, unmet_r, unmet-number}
 use Rattle.net.specs.Versions.{bytes_low, bytes_high, section_short}
 use Rattle.net.specs.Reading.{section_stretch}
 use Rattle.net.specs.Accepted.{Accepted, NetRight, net_right_of}
-use Rattle.net.specs.AcceptedIf.{FileRight, head-unmet, accepted-right, right-accepted, net-none}
+use Rattle.net.specs.AcceptedIf.{head-unmet, accepted-right, right-accepted, net-none}
 use Rattle.net.specs.Parts.{head_of_written, version_of_written, nodes_of_written, wires_of_written, obstacles_of_written, bytes_section, file_of_sections}
 use Rattle.net.specs.Writing.{file-length, write_done, answer-done, buffer-done}
 
@@ -174,9 +174,6 @@ one_net_one_file f g bf bg af ag e s =
     let rg = accepted-right g ag in
     let tg = rw (← e) at rg.net in
     one-file f g bf bg af ag e
-    (same_nodes _ _ _ _ _ _ _ rf.net tg s (bytes_of f bf rf 0) (bytes_of g bg rg 0))
+    (same_nodes _ _ _ _ _ _ _ rf.net tg s (bytes_section f bf 0) (bytes_section g bg 0))
     (same-wires _ _ _ _ _ _ _ rf.net tg s)
-    (same-obstacles _ _ _ _ _ _ _ rf.net tg s (bytes_of f bf rf 2) (bytes_of g bg rg 2))
-  where
-    bytes_of : (f : List ℕ) → Bytes f → FileRight f → (k : ℕ) → Bytes (section_of f k)
-    bytes_of f b r k = rw (← section_stretch f k (head-unmet f r.head)) (bytes_section f r.head b k)
+    (same-obstacles _ _ _ _ _ _ _ rf.net tg s (bytes_section f bf 2) (bytes_section g bg 2))

@@ -133,9 +133,9 @@ module _ (v c : ℕ) (os : List ℕ) where
               };
         }
 
-  -- how many bytes they take at most
-  pub prepared-few : (ns ws : List ℕ) → net_refusal v ns ws os ≡ none → obstacle_bytes newest * obstacle_count v os ≤ obstacle_bytes newest * most_obstacles
-  prepared-few ns ws e = omega (arith, (net-right v ns ws os e).sized.few_obstacles)
-
   pub prepared-none : (ns ws : List ℕ) → Bytes ns → Bytes os → net_refusal v ns ws os ≡ none → net_refusal newest ns ws (prepared v c os) ≡ none
   prepared-none ns ws nodes bytes e = sym (net-none newest ns ws (prepared v c os) (prepared-right ns ws (net-right v ns ws os e) nodes bytes))
+
+-- how many bytes they take at most
+pub prepared-few : (v : ℕ) (ns ws os : List ℕ) → net_refusal v ns ws os ≡ none → obstacle_bytes newest * obstacle_count v os ≤ obstacle_bytes newest * most_obstacles
+prepared-few v ns ws os e = omega (arith, (net-right v ns ws os e).sized.few_obstacles)

@@ -21,9 +21,6 @@ use Rattle.records.specs.NoObstacles.{accepted_without, right_bare}
 use Rattle.reports.specs.Promise.{piece_count, pieces_buffer}
 use Rattle.reports.specs.Reporting.{pieces_over}
 
-pub numbered : {r q : Verdict} → r ≡ q → r.number ≡ 0 → q.number ≡ 0
-numbered e h = rw e at h
-
 module _ (stage c : ℕ) (file list : List ℕ) where
   -- the list's refusal on sections equal to those of the file
   pub list_at : {ns ws os : List ℕ} {v : ℕ} {r : Verdict} → ns ≡ nodes_of file → ws ≡ wires_of file → v ≡ version_of file → os ≡ obstacles_of file →

@@ -6,7 +6,8 @@ use Rattle.laws.specs.Numbers.{Bytes}
 use Rattle.laws.specs.Sums.{no_both}
 use Rattle.net.specs.Answered.{met_refusal, answered_err}
 use Rattle.net.specs.Refusal.{Verdict, answer, met}
-use Rattle.net.specs.Calls.{call_stage, section-bytes}
+use Rattle.net.specs.Calls.{call_stage}
+use Rattle.net.specs.Parts.{bytes_section}
 use Rattle.repairs.proofs.repair.Goals as goal
 
 pub returns-in_err-net : goal.returns-in_err-net
@@ -29,4 +30,4 @@ pub repair_under-requires : goal.repair_under-requires
 repair_under-requires c =
     let n = c.in_ok-net.ensures.net in
     let file : Bytes c.args.file.now = λ i. omega (arith, c.type_inv.file i) in
-    (rw n.1 (section-bytes c.args.file.now file 0), rw n.3 (section-bytes c.args.file.now file 2))
+    (rw n.1 (bytes_section c.args.file.now file 0), rw n.3 (bytes_section c.args.file.now file 2))

@@ -16,10 +16,10 @@ returns-then-is_prepared c =
     c.args.stage c.repair_prepared.ensures
 
 pub prepare-end-requires : goal.prepare-end-requires
-prepare-end-requires c = prepared-few _ c.args.clearance _ _ _ c.args.net.accepted
+prepare-end-requires c = prepared-few _ _ _ _ c.args.net.accepted
 
 pub slice_bounds-room-end : goal.slice_bounds-room-end
-slice_bounds-room-end c = let h = prepared-few _ c.args.clearance _ _ _ c.args.net.accepted in search rules
+slice_bounds-room-end c = let h = prepared-few _ _ _ _ c.args.net.accepted in search rules
 
 pub slice_bounds-repair_prepared-end : goal.slice_bounds-repair_prepared-end
 slice_bounds-repair_prepared-end c =

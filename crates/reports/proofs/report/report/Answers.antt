@@ -6,7 +6,8 @@ use Rattle.net.specs.Layout.{record_bytes}
 use Rattle.net.specs.NoClearance.{stage_of}
 use Rattle.net.specs.Refusal.{Verdict, none, met, answer}
 use Rattle.net.specs.Call.{net_at}
-use Rattle.net.specs.Calls.{call_stage, section-bytes}
+use Rattle.net.specs.Calls.{call_stage}
+use Rattle.net.specs.Parts.{bytes_section}
 use Rattle.net.specs.Numbers.{answered}
 use Rattle.net.specs.Answered.{met_refusal, answered_err, answered_ok}
 use Rattle.reports.specs.Promise.{piece_count}
@@ -67,7 +68,7 @@ invariant_of-with_jumpers c =
     let file : Bytes c.args.file.now = λ i. omega (arith, c.type_inv.file i) in
     record {
       accepted = accepted (goal.at.invariant_of-with_jumpers c).In_ok-list_refusal;
-      bytes = (rw n.1 (section-bytes c.args.file.now file 0), rw n.2 (section-bytes c.args.file.now file 1));
+      bytes = (rw n.1 (bytes_section c.args.file.now file 0), rw n.2 (bytes_section c.args.file.now file 1));
     }
 
 pub returns-then-out-needed : goal.returns-then-out-needed
