@@ -1,8 +1,8 @@
 // The reader: the first refusal met in a net file, or in three sections.
 // The sections come one by one, from a file or from C, and are a Net only when they are accepted: so the functions before that take each.
-ghost use Rattle.std.specs.Prelude.{◌≡◌, ◌+◌, ◌-◌, ◌*◌, ◌<◌, ◌≤◌, length, IfOk};
+ghost use Rattle.std.specs.Prelude.{◌≡◌, ℕ, ◌+◌, ◌-◌, ◌*◌, ◌<◌, ◌≤◌, length, IfOk};
 ghost use Rattle.net.specs.Layout.{wire_bytes};
-ghost use Rattle.net.specs.Net.{node_count, obstacle_count};
+ghost use Rattle.net.specs.Net.{node_count, node_flags, obstacle_count};
 ghost use Rattle.net.specs.Numbers.{checked, answered};
 ghost use Rattle.net.specs.AcceptedNet.{IsNetOf};
 ghost use Rattle.net.specs.Refusal.{read_answer, read_refusal, net_refusal, first_of, sections_refusal, node_refusal, wire_refusal, obstacle_refusal};
@@ -80,10 +80,25 @@ fn sections_refusal(
     Ok(())
 }
 
+// The flags of all nodes, joined: no less than those of each.
+fn joined_flags(nodes: &[u8]) -> u8
+    ensures { (i : ℕ) → i < node_count nodes.now → node_flags nodes.now i ≤ result }
+{
+    let mut flags = 0;
+    for i in 0..node_count(nodes) {
+        flags |= node_at(nodes, i).flags;
+    }
+    flags
+}
+
 // Each node: 7. It, wires_refusal and obstacles_refusal are a loop over one test each: one function over a closure would be no shorter in its calls, and take a contract besides.
 fn nodes_refusal(nodes: &[u8]) -> Result<(), Refusal>
     ensures { checked result ≡ first_of (node_count nodes.now) (λ i. node_refusal nodes.now i) }
 {
+    // without a branch for each node, which few nets need
+    if joined_flags(nodes) <= MOST_FLAGS {
+        return Ok(());
+    }
     for i in 0..node_count(nodes) {
         if MOST_FLAGS < node_at(nodes, i).flags {
             return Err(Refusal::NodeFlags(i));

@@ -80,12 +80,14 @@ fn put_pair(offset: usize, extent: usize, out: &mut [u8])
     put32(extent, &mut out[LENGTH_AT..]);
 }
 
-// All of source.
+// All of source, byte after byte: `copy_from_slice` of any length calls `memmove`, which C would then have to bring beside `memcpy` and `memset`.
 fn copy(source: &[u8], out: &mut [u8])
     requires { length source.now ≤ length out.old }
     ensures { out.new ≡ over source.now out.old }
 {
-    out[..source.len()].copy_from_slice(source);
+    for i in 0..source.len() {
+        out[i] = source[i];
+    }
 }
 
 // All of first, then all of second.

@@ -3,8 +3,11 @@
 use mathlib.Core.Path.{refl}
 use native.Mathlib.Omega.{arith}
 use Rattle.net.specs.Reading.{node_flags_lem, node-right}
-use Rattle.net.specs.First.{first-start, first_more, first-here}
+use Rattle.net.specs.First.{first-start, first_more, first-here, first-none}
 use Rattle.net.proofs.read.nodes_refusal.Goals as goal
+
+pub returns-then-joined_flags-le-MOST_FLAGS : goal.returns-then-joined_flags-le-MOST_FLAGS
+returns-then-joined_flags-le-MOST_FLAGS c = first-none _ _ (λ i h. node-right _ _ (omega (arith, c.joined_flags.ensures i h)))
 
 pub loop-i-init : goal.loop-i-init
 loop-i-init c = first-start _
