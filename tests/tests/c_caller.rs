@@ -38,6 +38,24 @@ fn editor() {
     prints("editor");
 }
 
+/// What a program without a C library has to bring.
+#[test]
+fn needs_from_outside() {
+    let ran = Command::new("nm")
+        .args(["--undefined-only", "--format=just-symbols"])
+        .arg(root().join("target/staticlib/libantenna.a"))
+        .output()
+        .unwrap();
+    assert!(ran.status.success());
+    let text = String::from_utf8(ran.stdout).unwrap();
+    let mut names: Vec<&str> = text.lines().filter(|line| !line.is_empty()).collect();
+    // a member's name stands before its symbols
+    names.retain(|name| !name.ends_with(':'));
+    names.sort();
+    names.dedup();
+    assert_eq!(names, ["memcpy", "memset"]);
+}
+
 /// The header is C++ too, and its calls keep their C names there.
 #[test]
 fn header_in_cpp() {
