@@ -3,7 +3,7 @@
 use native.Mathlib.Omega.{arith}
 use Rattle.std.proofs.lemmas.Result.{err_from_is_err_and}
 use Rattle.net.specs.declared.refusal.Refusal.TheVariants.{Head, LentBuffer}
-use Prim.Native.Nat.{◌<◌}
+use Prim.Native.Nat.{◌<◌, ◌≤◌}
 use Rattle.net.specs.File.{file_bytes}
 use mathlib.Core.Path.{◌∙◌, refl, ap, sym}
 use lib.ListN.{length}
@@ -63,7 +63,8 @@ pub returns : goal.returns
 returns c =
     let a = c.args in
     let v = sym c.is_version.ensures ∙ c.if-not-is_version.false in
-    let w = write_done a.version a.nodes.now a.wires.now a.obstacles.now (length a.out.now) _ _ v c.in_ok-net_refusal.ensures refl refl c.if-out-needed.false in (
+    let enough : file_bytes a.nodes.now a.wires.now a.obstacles.now ≤ length a.out.now = omega (arith, c.if-out-needed.false) in
+    let w = write_done a.version a.nodes.now a.wires.now a.obstacles.now (length a.out.now) _ _ v c.in_ok-net_refusal.ensures refl refl enough in (
       answered_ok _ ∙ answer-done a.version a.nodes.now a.wires.now a.obstacles.now (length a.out.now) _ refl w,
       buffer-done a.version a.nodes.now a.wires.now a.obstacles.now a.out.now c.write_file.ensures w,
     )

@@ -1,5 +1,5 @@
 -- `points::line::Axis::first_above` meets its contract. Assumes nothing.
-use Rattle.std.proofs.Common.{◌∙◌, ◌+◌, ◌-◌, sym}
+use Rattle.std.proofs.Common.{◌∙◌, ◌+◌, ◌-◌, sym, arith}
 use Rattle.points.specs.Geometry.{first_above, by_cmp}
 use Rattle.points.proofs.line.Axis.first_above.Goals.{in-Greater, in-Less}
 use Rattle.points.proofs.line.Axis.first_above.Goals as goal
@@ -15,8 +15,8 @@ unfolding first_above
 returns c =
     let a = c.args in
     let e = sym c.cmp.ensures in
-    rw (c.from.ensures, ← by_cmp a.self.step (a.self.from - a.low + 1) a.end (a.high - a.self.from + 1))
+    rw (← by_cmp a.self.step (a.self.from - a.low + 1) a.end (a.high - a.self.from + 1))
     (elim c.match-cmp.branch [
-      | in-Greater w ↦ rw (e ∙ w.in-Greater.is, w.last-is, w.saturating_sub-last.ensures)
-      | in-Less w ↦ rw (e ∙ w.in-Less.is, w.last-is, w.saturating_sub-last-in-Less.ensures)
+      | in-Greater w ↦ rw (e ∙ w.in-Greater.is) (omega (arith, w.last-is, w.saturating_sub-last.ensures))
+      | in-Less w ↦ rw (e ∙ w.in-Less.is) (omega (arith, w.last-is, w.saturating_sub-last-in-Less.ensures))
     ])
