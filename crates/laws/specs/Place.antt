@@ -4,6 +4,7 @@ use Rattle.std.specs.Prelude.{ℕ, suc, ◌+◌, ◌-◌, ◌≤◌, ◌<◌, �
 use Rattle.std.proofs.Common.{sym, ◌∙◌, ap, append_assoc, append-nil, add-zero, arith, length-append, length-drop, take-append-drop, drop_of_length-le, length-take-le, take_all, take_at, drop_at, drop-drop}
 use Rattle.std.proofs.lemmas.List.{take-append-le, drop-append-le}
 use Rattle.std.proofs.Math.Seq.{take-append_seam, drop-append-add}
+use Rattle.std.proofs.lemmas.List.Edits.{sets, sets-eq}
 use Rattle.laws.specs.Gather.{gather}
 use Rattle.laws.specs.Gathers.{gather_ap, gather-at}
 
@@ -22,6 +23,10 @@ module _ {A : Type 0} (at : ℕ) where
       let c = length-drop (at + length q) l in
       let d = length-take-le at l (omega arith) in
       omega arith
+
+  -- entries stored one behind the other
+  pub place_sets : (q l : List A) → at + length q ≤ length l → sets l at q ≡ place at q l
+  place_sets q l h = sets-eq q l at h ∙ append_assoc (take at l) q (drop (at + length q) l)
 
   front_length : (q l : List A) → at + length q ≤ length l → length (take at l ++ q) ≡ at + length q
   front_length q l h =
@@ -50,6 +55,9 @@ module _ {A : Type 0} (at : ℕ) where
   -- the part of a list from index at on
   pub part-all : (l : List A) → take (length l - at) (drop at l) ≡ drop at l
   part-all l = take_all (length l - at) (drop at l) (let z = length-drop at l in omega arith)
+
+  pub part-long : (n : ℕ) (l : List A) → at + n ≤ length l → n ≤ length (take (length l - at) (drop at l))
+  part-long n l h = rw (part-all l) (let z = length-drop at l in omega arith)
 
   -- through such a part
   pub place-part : (q x l : List A) (k : ℕ) → length l ≤ at + k → x ≡ q ++ drop (length q) (take k (drop at l)) →

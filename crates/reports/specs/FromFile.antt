@@ -16,10 +16,13 @@ use Rattle.pieces.specs.Report.{report_of}
 use Rattle.pieces.specs.Barring.{barred_by}
 use Rattle.pieces.specs.BarringReports.{names_same, report_same}
 use Rattle.lists.specs.EntriesChecked.{list_none}
-use Rattle.records.specs.ListRight.{AtAccepted, AcceptedWithoutObstacles}
+use Rattle.records.specs.ListRight.{ListRight, AtAccepted, AcceptedWithoutObstacles}
 use Rattle.records.specs.NoObstacles.{accepted_without, right_bare}
 use Rattle.reports.specs.Promise.{piece_count, pieces_buffer}
 use Rattle.reports.specs.Reporting.{pieces_over}
+
+pub numbered : {r q : Verdict} → r ≡ q → r.number ≡ 0 → q.number ≡ 0
+numbered e h = rw e at h
 
 module _ (stage c : ℕ) (file list : List ℕ) where
   -- the list's refusal on sections equal to those of the file
@@ -29,7 +32,7 @@ module _ (stage c : ℕ) (file list : List ℕ) where
 
   -- a list whose refusal has number 0 is accepted
   pub listed_here : {r : Verdict} → r ≡ list_refusal (net_at file stage c) list → r.number ≡ 0 → list_refusal (net_at file stage c) list ≡ none
-  listed_here e h = list_none (net_at file stage c) list (rw e at h)
+  listed_here e h = list_none (net_at file stage c) list (numbered e h)
 
   module _ {ns ws : List ℕ} (a : ns ≡ nodes_of file) (b : ws ≡ wires_of file) where
     -- the net is accepted and the list for it, so both are without obstacles
@@ -58,3 +61,18 @@ module _ (stage c : ℕ) (file list : List ℕ) where
           h 1 [] (right_bare accepted)
           ∙ ap (λ (l : List ℕ). over l out) (report_same bare barred_of (set_of list) limit ∙ ap (λ (s : Stage). report_of s limit (set_of list)) same_net)
           ∙ pieces_over (net_at file stage c) limit list out
+
+-- without a clearance, the net is accepted and the list for it with the file's obstacles
+module _ (stage : ℕ) (file list : List ℕ) where
+  pub right_here : {r : Verdict} → (call_refusal stage file).number ≡ 0 → r ≡ list_refusal (net_at file stage 0) list → r.number ≡ 0 →
+      ListRight (version_of file) (nodes_of file) (wires_of file) stage list (obstacles_of file)
+  unfolding stage_of
+  right_here z e h = record { right = call_right stage file (call_unmet stage file z); listed = listed_here stage 0 file list e h }
+
+-- on sections equal to others
+module _ {ns ns' ws ws' : List ℕ} (e : ns ≡ ns') (f : ws ≡ ws') (v : ℕ) (os : List ℕ) (k : ℕ) where
+  pub right_of : {list : List ℕ} → ListRight v ns' ws' k list os → ListRight v ns ws k list os
+  right_of r = rw (e, f) r
+
+  pub stage-of : stage_of v ns ws os k ≡ stage_of v ns' ws' os k
+  stage-of = rw (e, f)

@@ -1,9 +1,10 @@
 -- Which answer each ending of the report gives, and what the lent buffer then holds.
 -- Assumes nothing.
 use Rattle.std.specs.Prelude.{ℕ, ◌*◌, ◌≤◌, ◌<◌, ◌≡◌, true, false, List, length}
-use Rattle.std.proofs.Common.{◌∙◌}
+use Rattle.std.proofs.Common.{◌∙◌, zero-add}
 use borrow.Author.Tests.{lt-ltb, le-ltb}
 use Rattle.laws.specs.Lists.{over}
+use Rattle.laws.specs.Place.{place}
 use Rattle.net.specs.Layout.{record_bytes}
 use Rattle.net.specs.Stage.{Stage}
 use Rattle.net.specs.Refusal.{Verdict, none, refusal, met, or_else, lent_refusal, answer}
@@ -23,6 +24,9 @@ answer-refused r m n h = rw h
 pub pieces_over : (s : Stage) (limit : ℕ) (list out : List ℕ) → over (report_of s limit (set_of list)) out ≡ pieces_buffer s limit list out
 unfolding pieces_buffer
 pieces_over s limit list out = rw (report_length s limit (set_of list))
+
+pub pieces_placed : (s : Stage) (limit : ℕ) (list out : List ℕ) → place 0 (report_of s limit (set_of list)) out ≡ pieces_buffer s limit list out
+pieces_placed s limit list out = rw (zero-add (length (report_of s limit (set_of list)))) (pieces_over s limit list out)
 
 -- so many records fit
 pub report_fits : (s : Stage) (limit : ℕ) (list : List ℕ) {records lent : ℕ} → records ≡ piece_count s list → record_bytes * records ≤ lent →

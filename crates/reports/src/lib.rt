@@ -1,5 +1,5 @@
 // The piece report: what the call tries in order, then the records of all pieces of an accepted net with an accepted jumper list.
 #![tactic(auto)]
 
-mod count;
+pub mod count;
 pub mod report;
