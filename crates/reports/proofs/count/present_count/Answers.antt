@@ -1,22 +1,37 @@
 -- `reports::count::present_count` meets its contract.
 -- Assumes nothing.
-use Rattle.std.proofs.Common.{ℕ, ◌≡◌, ◌∙◌, ◌&&◌, Bool, ltb, leb, length, rules, arith}
-use Rattle.std.proofs.lemmas.Iterator.{YieldsList-from_range}
-use Rattle.std.proofs.lemmas.Iterator.Consumers.{YieldsList-from_filter, count_from_yields_List}
-use Rattle.std.specs.List.{range_with_len, filter}
-use borrow.Author.Tests.{tests}
-use Rattle.laws.specs.Sum.{χ}
-use Rattle.laws.specs.Sums.{sum_bound, χ-≤}
+use mathlib.Core.Path.{◌≡◌, refl, sym, ◌∙◌}
+use mathlib.Core.Bool.{◌&&◌}
+use native.Mathlib.Omega.{arith}
+use lib.Dec.{ltb, leb}
+use Rattle.laws.specs.Sums.{sum-next, χ-yes, χ-no}
+use Rattle.laws.specs.Sum.{χ, sum}
 use Rattle.net.specs.Net.{wire_layer}
-use Rattle.reports.specs.Counting.{counted}
 use Rattle.reports.proofs.count.present_count.Goals as goal
+use Rattle.reports.proofs.count.present_count.Goals.{then-is_present, else-is_present}
+
+pub loop-i-init : goal.loop-i-init
+unfolding sum
+loop-i-init c = (refl, omega arith)
+
+pub loop-i-preserved : goal.loop-i-preserved
+loop-i-preserved c =
+    let a = c.args in
+    let i = c.loop-i.i in
+    let v = c.loop-i.invariant in
+    let n = sum-next i (λ k. χ (ltb 0 k && leb (wire_layer a.wires.now k) a.stage) 1) in
+    elim c.if-is_present.branch [
+      | then-is_present w ↦
+          let y = χ-yes 1 (sym c.is_present.ensures ∙ w.if-is_present.true) in
+          (omega (arith, v.0, w.count-is), omega (arith, v.1, w.count-is))
+      | else-is_present w ↦
+          let y = χ-no 1 (sym c.is_present.ensures ∙ w.if-is_present.false) in
+          (omega (arith, v.0, w.count-is), omega (arith, v.1, w.count-is))
+    ]
 
 pub returns : goal.returns
 returns c =
     let a = c.args in
-    let present : ℕ → Bool = λ i. ltb 0 i && leb (wire_layer a.wires.now i) a.stage in
-    let here : c.count.result ≡ length (filter present (range_with_len 0 a.n)) =
-    count_from_yields_List c.filter.result _ c.count.ensures.ran
-    (YieldsList-from_filter _ present (YieldsList-from_range 0 a.n a.n (search rules) (omega arith)) c.filter.ensures.closure (λ x r q k. search (rules, tests))) in
-    let sum = here ∙ counted present a.n in
-    (sum, omega (arith, sum_bound a.n 1 {f = λ i. χ (present i) 1} (λ i h. χ-≤ (present i) 1)))
+    let v = c.loop-i.invariant in
+    let q : c.loop-i.i ≡ a.n = omega arith in
+    (rw q at v.0, omega arith)
