@@ -1,8 +1,9 @@
 -- `repairs::repair_net` meets its contract: each pass has what it requires from those before, and the answers are those of the promise.
 -- Assumes nothing.
-use Rattle.std.proofs.Common.{◌*◌, refl, sym, ◌∙◌, rules, arith}
+use Rattle.std.proofs.Common.{◌*◌, refl, sym, ap, ◌∙◌, rules, arith}
 use Rattle.net.specs.Layout.{entry_bytes}
 use Rattle.net.specs.declared.refusal.Refusal.TheVariants.{NoLegalSet, LentBuffer}
+use Rattle.net.specs.Refusal.{none, answer}
 use Rattle.net.specs.Answered.{answered_err, answered_ok}
 use Rattle.net.specs.NoClearance.{stage_of}
 use Rattle.std.proofs.lemmas.List.{length-map}
@@ -50,7 +51,7 @@ pub returns-then-out-needed : goal.returns-then-out-needed
 returns-then-out-needed c =
     let right = newest_right c.args.net c.requires in
     let some = planned-some _ _ _ _ right _ c.first_passes.ensures _ _ _ c.count_pass-points.ensures in
-    rw c.requires (judged-short some.1 c.if-out-needed.true (answered_err (LentBuffer (entry_bytes * c.count_pass-points.result)) 0))
+    rw c.requires (judged-short some.1 (omega (arith, c.if-out-needed.true)) (answered_err (LentBuffer (entry_bytes * c.count_pass-points.result)) 0))
 
 pub choose-requires : goal.choose-requires
 choose-requires c =
@@ -95,4 +96,4 @@ returns c =
     let right = newest_right c.args.net c.requires in
     let first = c.first_passes.ensures in
     let plan = planned _ _ _ _ right _ first _ _ _ c.count_pass-points.ensures _ _ c.choose.ensures.1 in
-    rw c.requires (judged-done plan (omega (arith, c.if-out-needed.false)) (answered_ok c.count_pass-points.result) (rw first.n_is at c.write_list.ensures.1))
+    rw c.requires (judged-done plan (omega (arith, c.if-out-needed.false)) (answered_ok _ ∙ ap (answer none) (omega arith)) (rw first.n_is at c.write_list.ensures.1))

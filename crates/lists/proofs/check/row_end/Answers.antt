@@ -2,6 +2,7 @@
 -- Assumes nothing.
 use Rattle.std.proofs.Common.{◌≡◌, ◌∙◌, ◌||◌, ◌+◌, ◌-◌, ◌<◌, true, eqb, ltb, ltb-true, ltb-false, refl, sym, arith}
 use Rattle.laws.specs.Sums.{by}
+use Rattle.std.proofs.lemmas.Bool.Decides.{nat_tests}
 use Rattle.std.proofs.lemmas.Result.{err_from_is_err_and}
 use Rattle.net.specs.Refusal.{refusal}
 use Rattle.net.specs.Numbers.{checked}
@@ -19,7 +20,7 @@ is_present-requires c = wire-stored _ _ (wires-checked _ _ _ _ c.args.net.accept
 
 pub length_of-length-requires : goal.length_of-length-requires
 length_of-length-requires c =
-    present-checked _ _ (wires-checked _ _ _ _ c.args.net.accepted) c.entry_wire-i.result (omega arith) c.args.stage (sym c.if-not-is_present.ensures)
+    present-checked _ _ (wires-checked _ _ _ _ c.args.net.accepted) c.entry_wire-i.result (omega arith) c.args.stage (grind (arith, nat_tests, c.if-not-is_present.ensures))
 
 pub of_wire-line-requires : goal.of_wire-line-requires
 of_wire-line-requires c = length_of-length-requires (goal.at.of_wire-line-requires c).After-length_of-arg-2-1
@@ -31,7 +32,7 @@ returns-then-node_count-i c =
     let on_wire : refusal 13 a.e ≡ point_refusal s c.entry_wire-i.result (entry_position a.list.now a.e) a.e =
     elim c.then-node_count-i.branch [
       | then-node_count-i-via-then-node_count-i w ↦ no_wire _ _ _ _ _ _ _ _ _ (omega arith)
-      | then-node_count-i-via-else-node_count-i+then-not-is_present w ↦ absent_wire _ _ _ _ _ _ _ _ _ (omega arith) (sym w.if-not-is_present.ensures)
+      | then-node_count-i-via-else-node_count-i+then-not-is_present w ↦ absent_wire _ _ _ _ _ _ _ _ _ (omega arith) (grind (arith, nat_tests, w.if-not-is_present.ensures))
     ] in
     first-here _ _ _ c.requires.0 c.requires.1.accepted (rw c.entry_wire-i.ensures at on_wire ∙ entry_point s a.list.now a.e (c.requires.1.stands c.requires.0)) refl
 
@@ -78,7 +79,7 @@ judged c =
     (λ y. let behind = v.behind (ltb-true _ _ y) in after-behind _ _ (omega (arith, ltb-true _ _ y)) (omega arith) (omega arith))
     (λ n. let here : d ≡ a.e = omega (arith, ltb-false _ _ n) in rw here (c.requires.1.stands c.requires.0)) in
     (rw (c.of_wire-line.ensures.line, c.length_of-length.ensures.0) at c.position_refusal.ensures)
-    ∙ position_point a.net.version a.clearance a.net.nodes.now a.net.wires.now a.net.obstacles.now a.stage c.entry_wire-i.result c.entry_position-t.result d (omega arith) (sym c.if-not-is_present.ensures)
+    ∙ position_point a.net.version a.clearance a.net.nodes.now a.net.wires.now a.net.obstacles.now a.stage c.entry_wire-i.result c.entry_position-t.result d (omega arith) (grind (arith, nat_tests, c.if-not-is_present.ensures))
     ∙ (let on : c.entry_wire-i.result ≡ entry_wire a.list.now d = omega arith in rw (on, c.entry_position-t.ensures) (entry_point _ a.list.now d stands))
 
 pub returns-in_err-position_refusal : goal.returns-in_err-position_refusal
