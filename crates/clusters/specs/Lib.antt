@@ -9,3 +9,4 @@ pub mod FitsLaws
 pub mod Hopeless
 pub mod HopelessLaws
 pub mod Excluded
+pub mod BySlices

@@ -13,7 +13,7 @@ use net::fields::{is_present, node_count};
 use points::{highest_cuttable, length_of, lowest_cuttable};
 
 // The lowest and the highest position of wire i that may be cut, if there is one.
-fn cuttable_of(
+pub(crate) fn cuttable_of(
     nodes: &[u8],
     wires: &[u8],
     obstacles: &[u8],

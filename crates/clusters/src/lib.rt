@@ -1,6 +1,7 @@
 // The first passes of repair: the points of each wire that may be cut, the clusters that no cut parts, and whether one of them is hopeless.
 #![tactic(auto)]
 
+pub mod by_slices;
 pub mod cuttable;
 pub mod first_passes;
 pub mod gates;

@@ -11,7 +11,12 @@ use crate::work::Cuttable;
 use net::fields::{is_present, node_count, wire_at};
 
 // The node that each node leads to, lower nodes first: where its parent leads if its wire joins them, else itself.
-fn find_leaders<F: Fn(usize) -> bool>(nodes: &[u8], wires: &[u8], joined: F, leader: &mut [usize])
+pub(crate) fn find_leaders<F: Fn(usize) -> bool>(
+    nodes: &[u8],
+    wires: &[u8],
+    joined: F,
+    leader: &mut [usize],
+)
     requires wired { Wired nodes.now wires.now }
     requires nodes_in_bounds { node_count nodes.now ≤ length leader.old }
     requires callable { (i : ℕ) → i < node_count nodes.now → F.pre joined i }
