@@ -1,2 +1,4 @@
+pub mod BySlices
+pub mod BySlicesLaws
 pub mod Choose
 pub mod ChooseLaws

@@ -3,6 +3,8 @@
 // Of the wires their section is read: any that holds them will do, and a `Net` would ask more of callers.
 #![tactic(auto)]
 
+pub mod by_slices;
+
 ghost use Rattle.std.specs.Prelude.{◌≡◌, Bool, false, not, ◌&&◌, ◌||◌, cond, List, ℕ, ◌+◌, ◌*◌, ◌<◌, ◌≤◌, length, get_or, leb, ltb};
 ghost use Rattle.net.specs.Layout.{wire_bytes};
 ghost use Rattle.net.specs.Limits.{length_bound, weight_bound};
