@@ -1,13 +1,12 @@
 -- What the pass down establishes, over its work arrays.
 -- Assumes nothing.
-use Rattle.std.specs.Prelude.{ℕ, ◌≤◌, ◌<◌, ◌≡◌, Bool, false, not, List, get_or, ltb}
-use Rattle.laws.specs.Sum.{χ, sum}
+use Rattle.std.specs.Prelude.{ℕ, ◌≤◌, ◌<◌, ◌≡◌, Bool, false, List, get_or}
 use Rattle.net.specs.Layout.{most_nodes}
 use Rattle.net.specs.Limits.{weight_bound}
 use Rattle.net.specs.Net.{wire_factor}
 use Rattle.points.specs.Cuttable.{Checked}
 use Rattle.cuts.specs.Cluster.{Clusters, Sound}
-use Rattle.cuts.specs.Passes.{Down, Counted}
+use Rattle.cuts.specs.Passes.{Down}
 use Rattle.cuts.specs.Bounds.{all_weight}
 use Rattle.clusters.specs.declared.work.Clusters as work
 use Rattle.clusters.specs.Positions.{los, his, positions}
@@ -15,22 +14,12 @@ use Rattle.clusters.specs.Arrays.{down_of}
 use Rattle.counting.specs.declared.work.Counts.{Counts}
 use Rattle.counting.specs.declared.work.Branches.{Branches}
 use Rattle.counting.specs.Optional.{flags, weights}
-use Rattle.counting.specs.Climb.{open_at}
+use Rattle.counting.specs.BySlices as slices
+unfoldable pub use Rattle.counting.specs.BySlices.{root_sum}
 
 -- m clusters of the work arrays: every wire counts as made
 abbrev pub work_of : List ℕ → List ℕ → List ℕ → {N : ℕ} → work.Clusters N → ℕ → Clusters
-work_of ns ws os c m =
-    record {
-      nodes = m;
-      cuttable = λ i. ltb 0 (get_or (los c.cuttable) i 0);
-      lo = λ i. get_or (los c.cuttable) i 0;
-      hi = λ i. get_or (his c.cuttable) i 0;
-      free = λ i t. open_at ns ws os i t;
-      factor = λ i. wire_factor ws i;
-      host = λ i. get_or c.host i 0;
-      fixed = λ r. get_or c.fixed r 0;
-      gates = λ r. get_or c.gates r 0;
-    }
+work_of ns ws os c m = slices.work_of m ns ws os (los c.cuttable) (his c.cuttable) c.host c.fixed c.gates
 
 -- all of them
 unfoldable pub work_clusters : List ℕ → List ℕ → List ℕ → {N : ℕ} → work.Clusters N → Clusters
@@ -46,7 +35,7 @@ pub record Ready (ns ws os : List ℕ) {N : ℕ} (c : work.Clusters N) : Type 0 
 
 -- no cluster with a gate has more fixed weight than the limit
 abbrev pub NoneHopeless : {N : ℕ} → work.Clusters N → ℕ → Type 0
-NoneHopeless c limit = (r : ℕ) → r < c.n → 0 < get_or c.gates r 0 → get_or c.fixed r 0 ≤ limit
+NoneHopeless c limit = slices.NoneHopeless c.n c.fixed c.gates limit
 
 -- no branch of a cluster below r is marked
 abbrev pub Unmarked : {N : ℕ} → work.Clusters N → List Bool → ℕ → Type 0
@@ -58,14 +47,9 @@ found k b ungated_ok ungated_weight =
     down_of k.cut_any k.fewest k.any_ok k.any_weight ungated_ok ungated_weight b.count b.lightest (flags k.ungated) (weights k.ungated) (positions k.near)
 
 -- the clusters from r on are closed and climbed
-pub record CountedFrom (c : Clusters) (limit : ℕ) {N : ℕ} (k : Counts N) (b : Branches N) (r : ℕ) : Type 0 where
-  pub ungated_ok : ℕ → Bool
-  pub ungated_weight : ℕ → ℕ
-  pub counted : Counted c limit (found k b ungated_ok ungated_weight) r
-
--- the points at the nodes below m that are no branch: the lowest node of each component, and nodes inside clusters, which have none
-unfoldable pub root_sum : ℕ → List ℕ → List ℕ → ℕ
-root_sum m lo fewest = sum m (λ r. χ (not (ltb 0 (get_or lo r 0))) (get_or fewest r 0))
+abbrev pub CountedFrom : Clusters → ℕ → {N : ℕ} → Counts N → Branches N → ℕ → Type 0
+CountedFrom c limit k b r =
+    slices.CountedFrom c limit k.cut_any k.fewest k.any_ok k.any_weight b.count b.lightest (flags k.ungated) (weights k.ungated) (positions k.near) r
 
 -- all clusters are closed and climbed, and points is the sum over the components
 pub record CountedAll (ns ws os : List ℕ) {N : ℕ} (c : work.Clusters N) (limit : ℕ) (k : Counts N) (points : ℕ) : Type 0 where

@@ -6,7 +6,9 @@ pub mod CloseEndings
 pub mod CountFrame
 pub mod Climb
 pub mod ClimbLaws
+pub mod BySlices
 pub mod Count
 pub mod CountStep
 pub mod CountArrays
 pub mod CountTotal
+pub mod BySlicesLaws
