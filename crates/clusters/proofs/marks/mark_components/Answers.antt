@@ -1,5 +1,5 @@
 -- `clusters::marks::mark_components` meets its contract: the components below i are marked by the nodes below i. Assumes nothing.
-use Rattle.std.proofs.Common.{◌≡◌, ◌+◌, refl, sym, ◌∙◌, arith}
+use Rattle.std.proofs.Common.{ℕ, ◌≡◌, ◌+◌, true, false, set, get_or, refl, sym, ap, ◌∙◌, arith}
 use Rattle.laws.specs.Sum.{any}
 use Rattle.laws.specs.Sums.{any_next, or_right, or_false}
 use Rattle.clusters.specs.FirstPasses.{Falling}
@@ -22,7 +22,8 @@ loop-i-preserved g c = λ test h.
     elim c.if-passes.branch [
       | then-passes w ↦
           let here = sym is ∙ w.if-passes.true in
-          rw (w.marks-is, w.some-is)
+          let marks_is = w.marks-is ∙ ap (λ (k : ℕ). set (set l.marks l.i false) k true) {y = get_or a.component.now l.i 0} (omega arith) in
+          rw (marks_is, w.some-is)
           (sym (more ∙ or_right (any l.i test) here), mark_here a.component.now test l.i l.marks (omega arith) falling before.1 here)
       | else-passes w ↦
           let not = sym is ∙ w.if-passes.false in
