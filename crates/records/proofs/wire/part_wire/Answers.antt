@@ -47,7 +47,8 @@ returns c =
     let mask = rw c.wire_at-wire.ensures.layer at c.mask_of-mask.ensures in
     let buffer =
     above-joined a.limit a.net.nodes.now a.net.wires.now a.net.jumpers.now a.places.now a.i a.entries.end a.out.now c.join_record.new.rest
-    c.wire_at-wire.ensures.parent c.length_of.ensures.0 c.entry_position-last.ensures (rw c.wire_at-wire.ensures.factor at c.weight_of-end_weight.ensures.0) mask c.join_record.ensures in
+    c.wire_at-wire.ensures.parent c.length_of.ensures.0 c.entry_position-last.ensures (rw c.wire_at-wire.ensures.factor at c.weight_of-end_weight.ensures.0 ∙ ap (λ (steps : ℕ). steps * w) (omega arith)) mask
+    c.join_record.ensures in
     let long = ap length buffer ∙ joined_above_length a.limit _ _ _ _ a.out.now c.requires.wire_ready.above in
     let q = fields-length a.i 0 (entry_position a.net.jumpers.now a.entries.start * w) (with_harm a.limit (entry_position a.net.jumpers.now a.entries.start * w) (node_flags a.net.nodes.now a.i)) (2 ^ (wire_layer a.net.wires.now a.i - 1)) in
     let r = stretches-length a.net.jumpers.now a.i w (wire_layer a.net.wires.now a.i) a.entries.start (a.entries.end - a.entries.start - 1) in (
