@@ -35,10 +35,12 @@ pub fn clusters_of<const N: usize>(n: usize, lo: &[u64], hi: &[u64], host: &[usi
     ensures { SameClusters n lo.now hi.now host.now result }
 {
     let mut cuttable = [None; N];
-    let mut hosts = [0; N];
     for i in 0..n {
         cuttable[i] = ends_of(lo[i], hi[i]);
-        hosts[i] = host[i];
+    }
+    let mut hosts = [0; N];
+    for j in 0..n {
+        hosts[j] = host[j];
     }
     let mut c = Clusters::new();
     c.n = n;
