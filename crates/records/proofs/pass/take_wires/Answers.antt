@@ -1,21 +1,26 @@
 -- `records::pass::take_wires` meets its contract.
 -- Assumes nothing.
-use Rattle.std.proofs.Common.{◌≡◌, refl, arith}
+use Rattle.std.proofs.Common.{ℕ, ◌≡◌, refl, arith}
 use Rattle.net.specs.Net.{node_count}
-use Rattle.records.specs.Reached.{reached_none, reached_first, reached_wire, reached_next}
+use Rattle.records.specs.Reached.{Reached, reached_none, reached_first, reached_wire, reached_next}
 use Rattle.records.specs.Taken.{taken_none, taken_rest, taken_all}
-use Rattle.records.specs.NetWithJumpers.{accepted_of}
+use Rattle.records.specs.NetWithJumpers.{HeldAtNet, accepted_of}
 use Rattle.pieces.specs.JumperList.{entry_count}
 use Rattle.lists.specs.EntriesOfWire.{OfWire}
 use Rattle.records.proofs.pass.take_wires.Goals.{After-entries_end-end}
 use Rattle.records.proofs.pass.take_wires.Goals as goal
 
+-- what holds of 0 holds of a number that is 0
+of_zero : (P : ℕ → Type 0) {i : ℕ} → P 0 → i ≡ 0 → P i
+of_zero P p e = rw e p
+
 pub loop-i-init : goal.loop-i-init
 loop-i-init c =
     let a = c.args in
     record {
-      reached = reached_none a.net.jumpers.now;
-      held = taken_none a.net.nodes.now a.net.wires.now a.net.jumpers.now a.net.stage a.limit a.places.now a.out.now;
+      reached = of_zero (λ i. Reached a.net.jumpers.now i 0) (reached_none a.net.jumpers.now) (omega arith);
+      held = of_zero (λ i. HeldAtNet a.net a.limit i a.places.now 0 a.out.now)
+          (taken_none a.net.nodes.now a.net.wires.now a.net.jumpers.now a.net.stage a.limit a.places.now a.out.now) (omega arith);
       behind = refl;
     }
 
