@@ -1,4 +1,4 @@
-// The same pass for arrays of any length, as slices. A lowest position of 0 is that of a wire that cannot be cut; an entry of near is 0 where the branch has no jumper of its own.
+// The pass of this crate again, for arrays of any length, as slices. A lowest position of 0 is that of a wire that cannot be cut; an entry of near is 0 where the branch has no jumper of its own.
 ghost use Rattle.std.specs.Prelude.{◌≡◌, Bool, List, ℕ, ◌<◌, ◌≤◌, is_some, length, ltb};
 ghost use Rattle.net.specs.Layout.{most_nodes};
 ghost use Rattle.clusters.specs.Positions.{position_of};

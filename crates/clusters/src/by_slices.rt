@@ -1,13 +1,15 @@
-// The same passes for arrays of any length, as slices. A lowest position of 0 is that of a wire that cannot be cut, whatever its highest one is.
-ghost use Rattle.std.specs.Prelude.{◌≡◌, cond, ℕ, ◌+◌, ◌<◌, ◌≤◌, ◌^◌, length, get_or, ltb};
+// The passes of this crate again, for arrays of any length, as slices. A lowest position of 0 is that of a wire that cannot be cut, whatever its highest one is.
+ghost use Rattle.std.specs.Prelude.{◌≡◌, false, cond, ℕ, ◌+◌, ◌<◌, ◌≤◌, ◌^◌, length, get_or, ltb};
 ghost use Rattle.net.specs.Layout.{newest};
 ghost use Rattle.net.specs.Net.{node_count, wire_parent};
 ghost use Rattle.net.specs.NoClearance.{stage_of};
 ghost use Rattle.clusters.specs.Positions.{lo_of, hi_of};
 ghost use Rattle.clusters.specs.FirstPasses.{Wired, Ends, EndsInside, whole, Leads, host_of, Falling, gathered, lower_weight, upper_weight};
+ghost use Rattle.clusters.specs.Hopeless.{hopeless_at, any_hopeless, hopeless_in};
 ghost use Rattle.clusters.specs.BySlices.{Narrow, SameClusters};
 
 use crate::cuttable::cuttable_of;
+use crate::marks::mark_components;
 use crate::roots::find_leaders;
 use crate::weights;
 use crate::work::{Clusters, Cuttable};
@@ -122,4 +124,30 @@ pub fn weigh_clusters(
 {
     let c: Clusters<MOST_NODES> = clusters_of(node_count(nodes), lo, hi, host);
     weights::weigh_clusters(nodes, wires, stage, &c.cuttable, root, host, fixed);
+}
+
+// Marks the components that have a hopeless cluster, each at its lowest node, and answers whether there is one.
+pub fn find_hopeless(
+    component: &[usize],
+    fixed: &[u64],
+    gates: &[u64],
+    n: usize,
+    limit: u64,
+    hopeless: &mut [bool],
+) -> bool
+    requires n_in_bounds { (n ≤ length component.now) × Falling n component.now }
+    requires n_in_bounds_2 { (n ≤ length fixed.now) × (n ≤ length gates.now) }
+    requires n_in_bounds_3 { n ≤ length hopeless.old }
+    ensures { (result ≡ any_hopeless n fixed.now gates.now limit)
+        × ((k : ℕ) → k < n → get_or hopeless.new k false ≡ hopeless_in n component.now fixed.now gates.now limit k) }
+{
+    mark_components(
+        n,
+        component,
+        |r| -> bool
+            requires { (r < length fixed.now) × (r < length gates.now) }
+            ensures { result ≡ hopeless_at fixed.entry.now gates.entry.now limit r }
+        { 0 < gates[r] && limit < fixed[r] },
+        hopeless,
+    )
 }

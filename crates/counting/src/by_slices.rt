@@ -1,4 +1,4 @@
-// The same pass for arrays of any length, as slices. A lowest position of 0 is that of a wire that cannot be cut, whatever its highest one is; an entry of near is 0 where the branch has no jumper of its own.
+// The pass of this crate again, for arrays of any length, as slices. A lowest position of 0 is that of a wire that cannot be cut, whatever its highest one is; an entry of near is 0 where the branch has no jumper of its own.
 ghost use Rattle.std.specs.Prelude.{◌≡◌, false, ℕ, ◌<◌, ◌≤◌, length, get_or};
 ghost use Rattle.clusters.specs.Positions.{position_of, positions};
 ghost use Rattle.clusters.specs.BySlices.{Narrow, SameClusters};

@@ -95,7 +95,7 @@ fn joined_flags(nodes: &[u8]) -> u8
 fn nodes_refusal(nodes: &[u8]) -> Result<(), Refusal>
     ensures { checked result ≡ first_of (node_count nodes.now) (λ i. node_refusal nodes.now i) }
 {
-    // without a branch for each node, which few nets need
+    // one test tells that no node is refused, without a branch for each
     if joined_flags(nodes) <= MOST_FLAGS {
         return Ok(());
     }

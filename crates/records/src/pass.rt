@@ -35,7 +35,7 @@ pub fn write_records(net: NetWithJumpers, limit: u32, out: &mut [u8])
     requires { RecordsFit net limit out.old }
     ensures { AtNet net.entry (λ s. out.new ≡ over (report_of s limit (set_of net.entry.jumpers.now)) out.old) }
 {
-    // for few nodes, as most nets have, clearing 2,048 bytes would take a third of the time
+    // for few nodes a short array: clearing the 2,048 bytes of the other took a third of a report of one node
     if node_count(net.nodes) <= FEW_NODES {
         let mut places = [0usize; FEW_NODES];
         take_wires(net, limit, &mut places, out);
